@@ -1,0 +1,10 @@
+pub mod JoinedLaws
+pub mod Patterns
+pub mod Lists
+pub mod Derivations
+pub mod ChaseLaws
+pub mod NearLaws
+pub mod PairLaws
+pub mod Bound
+pub mod Turned
+pub mod SmallCases

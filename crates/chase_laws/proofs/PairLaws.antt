@@ -1,0 +1,88 @@
+-- No pair that a key could identify is dropped.
+use Rattle.std.proofs.Common.{List, ℕ, zero, suc, Bool, Some, All, slice_get, slice_index, get_or, ◌≡◌, sym, ◌∙◌, ap, subst}
+use Rattle.chase_laws.specs.declared.pattern.Slot.{Slot}
+use Rattle.chase_laws.specs.declared.pattern.Slot.TheVariants.{Entity, Any as AnyOf, Value, Folded, Fixed}
+use Rattle.chase_laws.specs.declared.pattern.Edge.{Edge}
+use Rattle.chase_laws.specs.Shape.{Shape}
+use Rattle.chase_laws.specs.Graph.{NumberedGraph, HasRow}
+use Rattle.chase_laws.specs.Valuation.{FitsSlot, AgreeAt, IsMatch}
+use Rattle.chase_laws.specs.Chase.{IsAble}
+use Rattle.chase_laws.specs.Joined.{joined}
+use Rattle.chase_laws.specs.Candidate.{Shares, IsCandidate}
+use Rattle.chase_laws.specs.Pairing.{GoTogether, PairedHere, ArePaired}
+
+together : (G : NumberedGraph) (same : ℕ → ℕ → Bool) (s : ℕ) (slot : Slot) (u w : ℕ) → FitsSlot G slot u → FitsSlot G slot w → AgreeAt G same s slot u w → GoTogether G slot u w
+together G same s (Entity t) u w h k agree = tt
+together G same s (AnyOf t) u w h k agree = tt
+together G same s Value u w h k agree = agree
+together G same s Folded u w h k agree = agree
+together G same s (Fixed c) u w h k agree = h ∙ sym k
+
+paired_here : (G : NumberedGraph) (Q : Shape) (same : ℕ → ℕ → Bool) (a b : ℕ) (v w : List ℕ) → IsMatch G Q same a b v w → (s : ℕ) → PairedHere G Q s (slice_index v s) (slice_index w s)
+paired_here G Q same a b v w x s slot at =
+    (x.left.kinds s slot at, x.right.kinds s slot at, together G same s slot (slice_index v s) (slice_index w s) (x.left.kinds s slot at) (x.right.kinds s slot at) (x.coincide s slot at))
+
+pub witness_paired : (G : NumberedGraph) (Q : Shape) (same : ℕ → ℕ → Bool) (a b : ℕ) (v w : List ℕ) → IsMatch G Q same a b v w → (d s : ℕ) → ArePaired G Q d s (slice_index v s) (slice_index w s)
+witness_paired G Q same a b v w x zero s = paired_here G Q same a b v w x s
+witness_paired G Q same a b v w x (suc d) s =
+    (paired_here G Q same a b v w x s, leaving (witness_paired G Q same a b v w x d), arriving (witness_paired G Q same a b v w x d))
+  where
+    leaving : ((t : ℕ) → ArePaired G Q d t (slice_index v t) (slice_index w t)) →
+        All (λ e. e.from ≡ s → (u' w' : ℕ) × ArePaired G Q d e.to u' w' × HasRow G (slice_index v s) e.pred u' × HasRow G (slice_index w s) e.pred w') Q.edges
+    leaving before k e h at =
+        let f : Edge = get_or Q.edges k e in (
+          slice_index v f.to,
+          slice_index w f.to,
+          before f.to,
+          subst (λ i. HasRow G (slice_index v i) f.pred (slice_index v f.to)) at (x.left.edges k e h),
+          subst (λ i. HasRow G (slice_index w i) f.pred (slice_index w f.to)) at (x.right.edges k e h),
+        )
+
+    arriving : ((t : ℕ) → ArePaired G Q d t (slice_index v t) (slice_index w t)) →
+        All (λ e. e.to ≡ s → (u' w' : ℕ) × ArePaired G Q d e.from u' w' × HasRow G u' e.pred (slice_index v s) × HasRow G w' e.pred (slice_index w s)) Q.edges
+    arriving before k e h at =
+        let f : Edge = get_or Q.edges k e in (
+          slice_index v f.from,
+          slice_index w f.from,
+          before f.from,
+          subst (λ i. HasRow G (slice_index v f.from) f.pred (slice_index v i)) at (x.left.edges k e h),
+          subst (λ i. HasRow G (slice_index w f.from) f.pred (slice_index w i)) at (x.right.edges k e h),
+        )
+
+shares : (G : NumberedGraph) (same : ℕ → ℕ → Bool) (s p : ℕ) (slot : Slot) (a b l m : ℕ) → FitsSlot G slot l → FitsSlot G slot m → AgreeAt G same s slot l m → HasRow G a p l → HasRow G b p m → Shares G slot p a b
+shares G same s p (Entity t) a b l m h k agree row1 row2 = tt
+shares G same s p (AnyOf t) a b l m h k agree row1 row2 = tt
+shares G same s p Value a b l m h k agree row1 row2 = (l, h, row1, subst (HasRow G b p) (sym agree) row2)
+shares G same s p Folded a b l m h k agree row1 row2 = (l, m, h, k, row1, row2, agree)
+shares G same s p (Fixed c) a b l m h k agree row1 row2 = tt
+
+pub able_candidate : (G : NumberedGraph) (K : List Shape) (a b : ℕ) → IsAble G K a b → IsCandidate G K a b
+able_candidate G K a b h =
+    let m = h.1.1 in
+    let x = m.witness in
+    record {
+      below = h.0;
+      key = m.key;
+      pattern = m.pattern;
+      found = m.found;
+      designated = λ slot at. (subst (FitsSlot G slot) x.at_a (x.left.kinds 0 slot at), subst (FitsSlot G slot) x.at_b (x.right.kinds 0 slot at));
+      share = λ k e i from slot at.
+          let f : Edge = get_or m.pattern.edges k e in
+          shares G (joined h.1.0) f.to f.pred slot a b (slice_index m.left f.to) (slice_index m.right f.to) (x.left.kinds f.to slot at) (x.right.kinds f.to slot at) (x.coincide f.to slot at)
+          (subst (λ n. HasRow G n f.pred (slice_index m.left f.to)) (ap (slice_index m.left) from ∙ x.at_a) (x.left.edges k e i))
+          (subst (λ n. HasRow G n f.pred (slice_index m.right f.to)) (ap (slice_index m.right) from ∙ x.at_b) (x.right.edges k e i));
+    }
+
+-- an able pair is paired to every depth at slot 0 of the key that can identify it
+pub able_paired : (G : NumberedGraph) (K : List Shape) (a b : ℕ) → IsAble G K a b →
+    (key : ℕ) × (Q : Shape) × (slice_get K key ≡ Some Q) × ((depth : ℕ) → ArePaired G Q depth 0 a b)
+able_paired G K a b h =
+    let m = h.1.1 in
+    let x = m.witness in (
+      m.key,
+      m.pattern,
+      m.found,
+      (λ depth. subst (λ n. ArePaired G m.pattern depth 0 n b) x.at_a
+          (subst (ArePaired G m.pattern depth 0 (slice_index m.left 0)) x.at_b
+          (witness_paired G m.pattern (joined h.1.0) a b m.left m.right x depth 0))),
+    )

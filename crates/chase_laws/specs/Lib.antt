@@ -1,0 +1,11 @@
+pub mod Shape
+pub mod Padded
+pub mod Joined
+pub mod Graph
+pub mod Valuation
+pub mod Chase
+pub mod Candidate
+pub mod Pairing
+pub mod Near
+pub mod View
+pub mod Report
