@@ -1,0 +1,11 @@
+pub mod Cause
+pub mod Files
+pub mod Taken
+pub mod HeldFiles
+pub mod HeldBytes
+pub mod DirShelf
+pub mod OutSink
+pub mod SureShelf
+pub mod SureSink
+pub mod MemShelf
+pub mod MemSink
