@@ -7,4 +7,5 @@ pub mod NearLaws
 pub mod PairLaws
 pub mod Bound
 pub mod Turned
+pub mod SameRows
 pub mod SmallCases

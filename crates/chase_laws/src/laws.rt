@@ -5,7 +5,7 @@ ghost use Rattle.std.specs.Prelude.{List, [], ◌∷◌, ◌++◌, ℕ, IsTrue, 
 ghost use Rattle.chase_laws.specs.declared.entry.Entry.{Entry};
 ghost use Rattle.chase_laws.specs.declared.pattern.Slot.TheVariants.{Entity};
 ghost use Rattle.chase_laws.specs.Shape.{Shape, IsPattern, PatternFacts};
-ghost use Rattle.chase_laws.specs.Graph.{NumberedGraph};
+ghost use Rattle.chase_laws.specs.Graph.{NumberedGraph, HasRowsOf};
 ghost use Rattle.chase_laws.specs.Valuation.{IsValuation, Matches};
 ghost use Rattle.chase_laws.specs.Joined.{joined, joined_by, Joined};
 ghost use Rattle.chase_laws.specs.Chase.{IsStep, IsDerivation, IsLean, AreSame, IsClosed, IsAble};
@@ -81,6 +81,13 @@ pub fn law_local()
     ensures same { (G : NumberedGraph) (K : List Shape) → All IsPattern K → (H J : List (ℕ × ℕ)) (a b : ℕ) →
         ((m n : ℕ) → IsNear G K a m → IsNear G K b n → joined H m n ≡ joined J m n) →
         Matches G K (joined H) a b ↔ Matches G K (joined J) a b }
+{}
+
+/// The rows of a graph are a set: two graphs that have each other's rows, and are else equal, have the same candidate
+/// pairs, and the same names are the same in both.
+pub fn law_rows()
+    ensures same { (G F : NumberedGraph) (K : List Shape) → HasRowsOf G F → HasRowsOf F G → (a b : ℕ) → AreSame G K a b ↔ AreSame F K a b }
+    ensures candidates { (G F : NumberedGraph) (K : List Shape) → HasRowsOf G F → HasRowsOf F G → (a b : ℕ) → IsCandidate G K a b ↔ IsCandidate F K a b }
 {}
 
 /// What the test of a valid pattern says.

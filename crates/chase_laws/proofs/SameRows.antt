@@ -1,0 +1,81 @@
+-- The rows of a graph are a set: their order and repeats are of no account.
+use Rattle.std.proofs.Common.{List, [], ◌∷◌, ℕ, Bool, Option, Some, None, All, Contains, IsTrue, IsSomeAnd, false, slice_get, slice_index, slice_index_or, get_or, take, ◌≡◌, ◌∙◌, sym, ap, subst}
+use Rattle.chase_laws.specs.declared.entry.Entry.{Entry}
+use Rattle.chase_laws.specs.declared.pattern.Slot.{Slot}
+use Rattle.chase_laws.specs.declared.pattern.Slot.TheVariants.{Entity, Any as AnyOf, Value, Folded, Fixed}
+use Rattle.chase_laws.specs.declared.pattern.Edge.{Edge}
+use Rattle.chase_laws.specs.Shape.{Shape}
+use Rattle.chase_laws.specs.Graph.{NumberedGraph, HasRow, HasType, HasRowsOf}
+use Rattle.chase_laws.specs.Valuation.{FitsSlot, IsValuation, AgreeAt, IsMatch}
+use Rattle.chase_laws.specs.Joined.{joined_by}
+use Rattle.chase_laws.specs.Chase.{IsStep, IsDerivation, AreSame}
+use Rattle.chase_laws.specs.Candidate.{Shares, IsCandidate}
+
+module _ (G F : NumberedGraph) (h : HasRowsOf G F) where
+  row : (s p o : ℕ) → HasRow G s p o → HasRow F s p o
+  row s p o r = h.rows (s ∷ p ∷ o ∷ []) r
+
+  literal_flag : (n : ℕ) → slice_index_or G.literal n false ≡ slice_index_or F.literal n false
+  literal_flag n = ap (λ flags. slice_index_or flags n false) h.literal
+
+  type : (n t : ℕ) → HasType G n t → HasType F n t
+  type n t k = subst (λ o. IsSomeAnd o (λ p. HasRow F n p t)) h.rdf_type (go G.rdf_type k)
+    where
+      go : (o : Option ℕ) → IsSomeAnd o (λ p. HasRow G n p t) → IsSomeAnd o (λ p. HasRow F n p t)
+      go None k = k
+      go (Some p) k = row n p t k
+
+  fits : (slot : Slot) (n : ℕ) → FitsSlot G slot n → FitsSlot F slot n
+  fits (Entity t) n k = ((λ l. k.0 (literal_flag n ∙ l)), type n t k.1)
+  fits (AnyOf t) n k = ((λ l. k.0 (literal_flag n ∙ l)), type n t k.1)
+  fits Value n k = sym (literal_flag n) ∙ k
+  fits Folded n k = sym (literal_flag n) ∙ k
+  fits (Fixed c) n k = k
+
+  valuation : (Q : Shape) (v : List ℕ) → IsValuation G Q v → IsValuation F Q v
+  valuation Q v k = record {
+    one_each = k.one_each;
+    different = k.different;
+    kinds = λ s slot at. fits slot (slice_index v s) (k.kinds s slot at);
+    edges = λ i e l. let f : Edge = get_or Q.edges i e in row (slice_index v f.from) f.pred (slice_index v f.to) (k.edges i e l);
+  }
+
+  agree : (same : ℕ → ℕ → Bool) (s : ℕ) (slot : Slot) (m n : ℕ) → AgreeAt G same s slot m n → AgreeAt F same s slot m n
+  agree same s (Entity t) m n k = k
+  agree same s (AnyOf t) m n k = tt
+  agree same s Value m n k = k
+  agree same s Folded m n k = subst (λ a. slice_index a m ≡ slice_index a n) h.alike k
+  agree same s (Fixed c) m n k = tt
+
+  pub match_too : (Q : Shape) (same : ℕ → ℕ → Bool) (a b : ℕ) (v w : List ℕ) → IsMatch G Q same a b v w → IsMatch F Q same a b v w
+  match_too Q same a b v w k = record {
+    left = valuation Q v k.left;
+    right = valuation Q w k.right;
+    coincide = λ s slot at. agree same s slot (slice_index v s) (slice_index w s) (k.coincide s slot at);
+    at_a = k.at_a;
+    at_b = k.at_b;
+  }
+
+  pub same_too : (K : List Shape) (a b : ℕ) → AreSame G K a b → AreSame F K a b
+  same_too K a b k = (
+    k.0,
+    (λ i e at. let s = k.1 i e at in record { pattern = s.pattern; key = s.key; witness = match_too s.pattern (joined_by (take i k.0)) e.a e.b e.left e.right s.witness }),
+    k.2,
+  )
+
+  share : (slot : Slot) (p a b : ℕ) → Shares G slot p a b → Shares F slot p a b
+  share Value p a b k = (k.0, sym (literal_flag k.0) ∙ k.1, row a p k.0 k.2, row b p k.0 k.3)
+  share Folded p a b k = (k.0, k.1, sym (literal_flag k.0) ∙ k.2, sym (literal_flag k.1) ∙ k.3, row a p k.0 k.4, row b p k.1 k.5, subst (λ l. slice_index l k.0 ≡ slice_index l k.1) h.alike k.6)
+  share (Entity t) p a b k = tt
+  share (AnyOf t) p a b k = tt
+  share (Fixed c) p a b k = tt
+
+  pub candidate_too : (K : List Shape) (a b : ℕ) → IsCandidate G K a b → IsCandidate F K a b
+  candidate_too K a b k = record {
+    below = k.below;
+    key = k.key;
+    pattern = k.pattern;
+    found = k.found;
+    designated = λ slot at. let d = k.designated slot at in (fits slot a d.0, fits slot b d.1);
+    share = λ i e l from slot at. let f : Edge = get_or k.pattern.edges i e in share slot f.pred a b (k.share i e l from slot at);
+  }

@@ -1,0 +1,11 @@
+pub mod Cuts
+pub mod Fields
+pub mod Fresh
+pub mod Linking
+pub mod Looks
+pub mod Paths
+pub mod Plain
+pub mod Pools
+pub mod Shown
+pub mod Times
+pub mod Walks

@@ -1,0 +1,5 @@
+pub mod Counts
+pub mod Links
+pub mod OptionalCell
+pub mod Pool
+pub mod Linked
