@@ -1,0 +1,19 @@
+//! The classes of a chase: a label for each node, the members of each class, and the journal of identifications that
+//! made them. Two nodes have the same label exactly where the journal joins them. An identification relabels the
+//! smaller of two classes, so that over all of them a node is relabelled a logarithm of times, and takes no memory.
+//!
+//! - `book`: the book of classes
+//! - `fresh`: the parts of a book in which each node is alone
+//! - `enter`: an identification entered in the parts of a book
+//! - `merge`: two classes made one
+#![tactic(auto)]
+
+mod book;
+mod enter;
+mod fresh;
+mod merge;
+
+pub use book::Book;
+
+#[cfg(test)]
+mod tests;
