@@ -1,0 +1,4 @@
+pub mod NumberingLemmas
+pub mod FoldingLemmas
+mod TableLemmas
+mod FoldLoop

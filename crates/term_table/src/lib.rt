@@ -1,0 +1,15 @@
+//! The numbering of terms. Each distinct term of a graph is stored once and gets a number, its place by first
+//! occurrence, so that all later work is on numbers of four bytes. Numbers are looked up by term in one step of a hash
+//! table, and terms by number in an array. `alike` tells which literals are the same but for the case of their letters.
+//!
+//! - `names`: the table of the names
+//! - `folding`: which literals are the same but for case
+#![tactic(auto)]
+
+mod folding;
+mod names;
+
+pub use names::Names;
+
+#[cfg(test)]
+mod tests;
