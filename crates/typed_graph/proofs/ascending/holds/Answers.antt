@@ -1,0 +1,6 @@
+-- What a search in ascending numbers says.
+use Rattle.typed_graph.proofs.Ends.{found_exact}
+use Rattle.typed_graph.proofs.ascending.holds.Goals as goal
+
+pub returns : goal.returns
+returns c = rw c.is_ok.ensures.value (found_exact c.args.xs.now c.args.x c.binary_search.result c.requires c.binary_search.ensures.position)

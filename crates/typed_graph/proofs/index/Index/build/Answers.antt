@@ -1,0 +1,12 @@
+use Rattle.std.proofs.Common.{[], ◌∷◌}
+use Rattle.typed_graph.proofs.Order.{rows_rise, firsts_kept, chain}
+use Rattle.typed_graph.proofs.index.Index.build.Goals as goal
+
+pub from_sorted-requires-clause-rise : goal.from_sorted-requires-clause-rise
+from_sorted-requires-clause-rise c = rw c.deref.ensures.value (rows_rise c.sorted-rows.result.items c.sorted-rows.ensures.three c.sorted-rows.ensures.ascending)
+
+pub from_sorted-requires-clause-named : goal.from_sorted-requires-clause-named
+from_sorted-requires-clause-named c = rw c.deref.ensures.value (firsts_kept _ _ c.args.names c.sorted-rows.ensures.same c.requires)
+
+pub returns : goal.returns
+returns c = λ n p m. chain _ _ _ (rw c.deref.ensures.value at (c.in_ok-from_sorted.ensures n p m)) (c.sorted-rows.ensures.same (n ∷ p ∷ m ∷ []))

@@ -1,0 +1,179 @@
+//! A graph in numbers.
+
+ghost use Rattle.std.specs.Prelude.{◌≡◌, ◌<◌, ◌≤◌, ◌^◌, List, ◌↔◌, ℕ, All, Contains, IfOk, IsTrue, length, slice_index};
+ghost use Rattle.std.specs.Option.{ForSome};
+ghost use Rattle.std.specs.Ordering.{nat_cmp};
+ghost use Rattle.std.specs.Cmp.Lexicographic.{slice_cmp};
+ghost use Rattle.std.specs.List.Sorted.{IsStrictlyIncreasing, IsStrictlySortedBy};
+ghost use Rattle.chase_laws.specs.Graph.{NumberedGraph, IsGraph, IsFolding, HasRow, HasType, IsLiteral, IsEntity};
+
+use crate::Index;
+use crate::ascending::holds;
+use crate::rows::{sorted, turn};
+use gk_base::NoMemory;
+use std::alloc::Global;
+use std::marker::Model;
+
+/// A graph whose names are the numbers below `names()`, with its rows in order and two indexes of them. Contracts see
+/// it as the rows, the literals' flags, the number of `rdf:type` where that is a name, and what each name is alike to.
+/// Each look-up answers for every number: one that is no name has empty lists and the answer false.
+#[derive(Drop)]
+pub struct Graph {
+    rows: Vec<[u32; 3]>,
+    literal: Vec<bool>,
+    rdf_type: Option<u32>,
+    alike: Vec<u32>,
+    /// The rows as subject, predicate, object.
+    forward: Index,
+    /// The rows as object, predicate, subject.
+    backward: Index,
+}
+
+impl Model for Graph {
+    ghost use Rattle.chase_laws.specs.Graph.{NumberedGraph};
+
+    ghost Value = { NumberedGraph };
+
+    ghost use Rattle.typed_graph.specs.Indexed.{graph_of, IsIndexed};
+
+    ghost view = { graph_of };
+
+    ghost invariant = { IsIndexed };
+}
+
+impl Graph {
+    /// Sorts the rows and builds the indexes. `rows` may come in any order and with repeats; `names` is how many names
+    /// there are, `literal` has a flag for each, `rdf_type` is the number of `rdf:type` where that is a name, and
+    /// `alike` says what each name is alike to. Fails only for want of memory.
+    pub fn build(
+        alloc: Global,
+        rows: Vec<[u32; 3]>,
+        names: u32,
+        literal: Vec<bool>,
+        rdf_type: Option<u32>,
+        alike: Vec<u32>,
+    ) -> Result<Graph, NoMemory>
+        requires named { All (λ row. All (λ n. n < names) row) rows.items }
+        requires flags { length literal.items ≡ names }
+        requires type_named { ForSome rdf_type (λ p. p < names) }
+        requires folding { IsFolding (record { rows = rows.items; literal = literal.items; rdf_type = rdf_type; alike = alike.items }) }
+        ensures rows { IfOk result (λ g. (row : List ℕ) → Contains g.rows row ↔ Contains rows.items row) }
+        ensures ascending { IfOk result (λ g. IsStrictlySortedBy (slice_cmp nat_cmp) g.rows) }
+        ensures literal { IfOk result (λ g. g.literal ≡ literal.items) }
+        ensures rdf_type { IfOk result (λ g. g.rdf_type ≡ rdf_type) }
+        ensures alike { IfOk result (λ g. g.alike ≡ alike.items) }
+    {
+        let rows = sorted(rows);
+        let forward = Index::from_sorted(alloc, &rows, names)?;
+        let backward = Index::build(alloc, turn(alloc, &rows)?, names)?;
+        Ok(Graph {
+            rows,
+            literal,
+            rdf_type,
+            alike,
+            forward,
+            backward,
+        })
+    }
+
+    /// The rows, ascending without repeats: by subject, then predicate, then object.
+    pub fn rows(&self) -> &[[u32; 3]]
+        ensures rows { result.now ≡ self.now.rows }
+        ensures ascending { IsStrictlySortedBy (slice_cmp nat_cmp) self.now.rows }
+        ensures three { All (λ row. length row ≡ 3) self.now.rows }
+    {
+        &self.rows
+    }
+
+    /// How many names there are. The names are the numbers below.
+    pub fn names(&self) -> u32
+        ensures names { result ≡ length self.now.literal }
+        ensures few { length self.now.literal < 2 ^ 32 }
+        ensures graph { IsGraph self.now }
+        ensures folding { IsFolding self.now }
+        ensures type_named { ForSome self.now.rdf_type (λ p. p < length self.now.literal) }
+    {
+        self.literal.len() as u32
+    }
+
+    /// The objects of the rows with subject `n` and predicate `p`, ascending without repeats.
+    pub fn outgoing(&self, n: u32, p: u32) -> &[u32]
+        ensures ascending { IsStrictlyIncreasing result.now }
+        ensures exact { (o : ℕ) → Contains result.now o ↔ HasRow self.now n p o }
+        ensures named { All (λ m. m < length self.now.literal) result.now }
+    {
+        self.forward.find(n, p)
+    }
+
+    /// The subjects of the rows with object `n` and predicate `p`, ascending without repeats.
+    pub fn incoming(&self, n: u32, p: u32) -> &[u32]
+        ensures ascending { IsStrictlyIncreasing result.now }
+        ensures exact { (s : ℕ) → Contains result.now s ↔ HasRow self.now s p n }
+        ensures named { All (λ m. m < length self.now.literal) result.now }
+    {
+        self.backward.find(n, p)
+    }
+
+    /// What has the type `t`, ascending without repeats.
+    pub fn with_type(&self, t: u32) -> &[u32]
+        ensures ascending { IsStrictlyIncreasing result.now }
+        ensures exact { (n : ℕ) → Contains result.now n ↔ HasType self.now n t }
+        ensures named { All (λ m. m < length self.now.literal) result.now }
+    {
+        match self.rdf_type {
+            Some(p) => self.incoming(t, p),
+            None => &[],
+        }
+    }
+
+    /// Whether the row is in the graph.
+    pub fn has(&self, s: u32, p: u32, o: u32) -> bool
+        ensures { IsTrue result ↔ HasRow self.now s p o }
+    {
+        if self.forward.count(s) <= self.backward.count(o) {
+            holds(self.outgoing(s, p), o)
+        } else {
+            holds(self.incoming(o, p), s)
+        }
+    }
+
+    /// Whether `t` is a type of `n`.
+    pub fn has_type(&self, n: u32, t: u32) -> bool
+        ensures { IsTrue result ↔ HasType self.now n t }
+    {
+        match self.rdf_type {
+            Some(p) => self.has(n, p, t),
+            None => false,
+        }
+    }
+
+    /// Whether `n` is a literal.
+    pub fn is_literal(&self, n: u32) -> bool
+        ensures { IsTrue result ↔ IsLiteral self.now n }
+    {
+        let at = n as usize;
+        at < self.literal.len() && self.literal[at]
+    }
+
+    /// Whether `n` is an entity: no literal, and the subject or the object of a row.
+    pub fn is_entity(&self, n: u32) -> bool
+        ensures { IsTrue result ↔ IsEntity self.now n }
+    {
+        if self.is_literal(n) {
+            return false;
+        }
+        if self.forward.begins(n) {
+            return true;
+        }
+        self.backward.begins(n)
+    }
+
+    /// The number of the name that `n` is alike to, which is not above `n`.
+    pub fn alike(&self, n: u32) -> u32
+        requires { n < length self.now.literal }
+        ensures alike { result ≡ slice_index self.now.alike n }
+        ensures not_above { result ≤ n }
+    {
+        self.alike[n as usize]
+    }
+}

@@ -1,0 +1,24 @@
+//! A graph in numbers, with indexes for every look-up that matching makes. `Graph` holds the rows in order, and two
+//! sorted copies of them with offsets, one by subject and predicate and one by object and predicate, so that a look-up
+//! is a slice of one array and takes no memory. Contracts see a `Graph` as the graph of the definitions, and each
+//! look-up says which rows it answers by, for every number.
+//!
+//! - `graph`: the graph and its look-ups
+//! - `index`: one sorted order of rows
+//! - `ascending`: look-ups in ascending numbers
+//! - `rows`: lists of rows
+//! - `checks`: the test of what a graph is built from
+#![tactic(auto)]
+
+pub mod ascending;
+mod checks;
+mod graph;
+mod index;
+mod rows;
+
+pub use checks::can_build;
+pub use graph::Graph;
+pub use index::Index;
+
+#[cfg(test)]
+mod tests;

@@ -1,0 +1,40 @@
+//! Lists of rows.
+
+ghost use Rattle.std.specs.Prelude.{◌≡◌, List, ◌↔◌, ℕ, All, Contains, IfOk, length, map};
+ghost use Rattle.std.specs.Ordering.{nat_cmp};
+ghost use Rattle.std.specs.Cmp.Lexicographic.{slice_cmp};
+ghost use Rattle.std.specs.List.Sorted.{IsStrictlySortedBy};
+ghost use Rattle.typed_graph.specs.Table.{turned};
+
+use std::alloc::{AllocError, Global};
+
+/// A row has three numbers.
+fn three_each(rows: &[[u32; 3]])
+    ensures { All (λ row. length row ≡ 3) rows.now }
+{
+    let _ = rows;
+}
+
+/// The rows ascending, each once.
+pub(crate) fn sorted(rows: Vec<[u32; 3]>) -> Vec<[u32; 3]>
+    ensures ascending { IsStrictlySortedBy (slice_cmp nat_cmp) result.items }
+    ensures three { All (λ row. length row ≡ 3) result.items }
+    ensures same { (row : List ℕ) → Contains result.items row ↔ Contains rows.items row }
+{
+    three_each(&rows);
+    let mut rows = rows;
+    rows.sort_unstable();
+    rows.dedup();
+    rows
+}
+
+/// The rows with the object first and the subject last.
+pub(crate) fn turn(alloc: Global, rows: &[[u32; 3]]) -> Result<Vec<[u32; 3]>, AllocError>
+    ensures { IfOk result (λ v. v.items ≡ map turned rows.now) }
+{
+    let mut out = Vec::with_capacity(alloc, rows.len())?;
+    for row in rows {
+        out.push([row[2], row[1], row[0]])?;
+    }
+    Ok(out)
+}
