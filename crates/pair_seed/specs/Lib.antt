@@ -1,0 +1,5 @@
+pub mod Pairs
+pub mod Stop
+pub mod Folds
+pub mod Key
+pub mod Gathered

@@ -1,0 +1,61 @@
+//! All candidate pairs.
+
+ghost use Rattle.std.specs.Prelude.{◌≡◌, ◌<◌, ◌≤◌, ◌^◌, ◌↔◌, ◌++◌, ℕ, All, Contains, IfOk, IfErr, OnOk, length, map};
+ghost use Rattle.chase_laws.specs.Candidate.{IsCandidate};
+ghost use Rattle.chase_laws.specs.Chase.{IsAble};
+ghost use Rattle.pair_seed.specs.Pairs.{AreAscending, HasMoreCandidates};
+ghost use Rattle.pair_seed.specs.Stop.{IsRightStop};
+
+use crate::SeedStop;
+use crate::folds::table_for;
+use crate::gather::partners;
+use crate::parts::all_valid;
+use chase_laws::Pattern;
+use chase_laws::laws::law_able;
+use std::alloc::{AllocError, Global};
+use typed_graph::Graph;
+
+/// Adds the pairs of one entity with its partners.
+fn push_all(pairs: &mut Vec<(u32, u32)>, a: u32, bs: &[u32]) -> Result<(), AllocError>
+    ensures { IfOk result (λ _. pairs.new.items ≡ pairs.old.items ++ map (λ b. (a, b)) bs.now) }
+{
+    for b in bs {
+        pairs.push((a, *b))?;
+    }
+    Ok(())
+}
+
+/// The candidate pairs, lower number first, each once, in ascending order: those (a, b) for which some key designates a
+/// type of both, and for each of its edges from slot 0 to a value variable they share a literal under its predicate, or
+/// where the variable is folded two literals that are alike.
+///
+/// `TooManyPairs` comes where there are more than `limit`, and `NoMemory` where memory ran out.
+pub fn seed(
+    alloc: Global,
+    graph: &Graph,
+    patterns: &[Pattern],
+    limit: u64,
+) -> Result<Vec<(u32, u32)>, SeedStop>
+    requires { limit < 2 ^ 32 }
+    ensures pairs { IfOk result (λ v. (a b : ℕ) → Contains v.items (a, b) ↔ IsCandidate graph.now patterns.now a b) }
+    ensures ascending { IfOk result (λ v. AreAscending v.items) }
+    ensures few { IfOk result (λ v. length v.items ≤ limit) }
+    ensures able { IfOk result (λ v. (a b : ℕ) → IsAble graph.now patterns.now a b → Contains v.items (a, b)) }
+    ensures named { IfOk result (λ v. All (λ x. (x.0 < x.1) × (x.1 < length graph.now.literal)) v.items) }
+    ensures no_more { OnOk result (¬ (HasMoreCandidates graph.now patterns.now limit)) }
+    ensures stop { IfErr result (IsRightStop graph.now patterns.now limit) }
+{
+    law_able();
+    all_valid(patterns);
+    let folds = table_for(alloc, graph, patterns)?;
+    let mut near = Vec::new(alloc);
+    let mut pairs = Vec::new(alloc);
+    for a in 0..graph.names() {
+        partners(graph, &folds, patterns, a, &mut near)?;
+        if near.len() as u64 > limit - pairs.len() as u64 {
+            return Err(SeedStop::TooManyPairs { found: limit + 1 });
+        }
+        push_all(&mut pairs, a, &near)?;
+    }
+    Ok(pairs)
+}
