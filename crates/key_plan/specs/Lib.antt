@@ -1,0 +1,4 @@
+pub mod Distance
+pub mod Making
+pub mod Route
+pub mod Inner

@@ -1,0 +1,5 @@
+pub mod BlockLaws
+pub mod Labels
+pub mod Moves
+pub mod PairLaws
+pub mod PartLaws

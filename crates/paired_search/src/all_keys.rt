@@ -1,0 +1,127 @@
+//! The search over all keys.
+
+ghost use Rattle.std.specs.Prelude.{◌≡◌, ◌<◌, ◌≤◌, ◌^◌, ℕ, List, Some, IfSome, IfNone, length, slice_get, slice_index};
+ghost use Rattle.chase_laws.specs.Shape.{Shape, PatternFacts};
+ghost use Rattle.chase_laws.specs.Valuation.{IsMatch, Matches};
+ghost use Rattle.chase_laws.specs.View.{same_by};
+ghost use Rattle.key_plan.specs.Route.{IsPlanOf};
+ghost use Rattle.paired_search.specs.Part.{IsPlaced, IsReady};
+ghost use Rattle.paired_search.specs.Plans.{ArePlans};
+
+use crate::View;
+use crate::extend::{extend, joins};
+use crate::fits::goes_on;
+use chase_laws::{Pattern, Places, laws};
+use key_plan::Plan;
+use typed_graph::Graph;
+
+/// What `search` found: a key, by its place among the patterns, and its valuations at the two names, by slots.
+#[derive(Clone, Copy)]
+pub struct Finding {
+    pub key: u32,
+    pub left: Places,
+    pub right: Places,
+}
+
+/// Two valuations at `a` and `b` that coincide, in the order of the plan; None exactly where there are none.
+fn search_placed(
+    graph: &Graph,
+    plan: &Plan,
+    view: &View,
+    a: u32,
+    b: u32,
+) -> Option<(Places, Places)>
+    requires ready { IsReady plan.now.shape }
+    requires begins { 0 < length plan.now.shape.slots }
+    ensures found { IfSome result (λ f. IsMatch graph.now plan.now.shape (same_by view.now.pairs) a b f.0 f.1) }
+    ensures none { IfNone result ((v w : List ℕ) → ¬ (IsMatch graph.now plan.now.shape (same_by view.now.pairs) a b v w)) }
+{
+    let slot = plan.slot(0);
+    let block = plan.block(0);
+    let mut left = Places::empty();
+    let mut right = Places::empty();
+    if !goes_on(graph, plan, block, slot, &left, a) {
+        return None;
+    }
+    if !joins(graph, plan, view, block, slot, &left, &right, a, b) {
+        return None;
+    }
+    left.push(a);
+    right.push(b);
+    extend(graph, plan, view, left, right)
+}
+
+/// A list by slots, from one in the order of the plan.
+fn by_slots(plan: &Plan, places: &Places) -> Places
+    requires long { length places.now ≡ length plan.now.place }
+    requires few { length plan.now.place ≤ 16 }
+    requires within { (s : ℕ) → s < length plan.now.place → slice_index plan.now.place s < length plan.now.place }
+    ensures { IsPlaced plan.now.place places.now result }
+{
+    let mut list = Places::empty();
+    for slot in 0..places.len() {
+        list.push(places.get(plan.place(slot)));
+    }
+    list
+}
+
+/// What holds of every pattern.
+fn pattern_facts(pattern: &Pattern)
+    ensures { PatternFacts pattern.now }
+{
+    laws::law_pattern();
+    let _ = &pattern.slots;
+}
+
+/// Two valuations of one key at `a` and `b` that coincide up to the view; None exactly where there are none.
+fn search_key(
+    graph: &Graph,
+    pattern: &Pattern,
+    plan: &Plan,
+    view: &View,
+    a: u32,
+    b: u32,
+) -> Option<(Places, Places)>
+    requires { IsPlanOf pattern.now plan.now }
+    ensures found { IfSome result (λ f. IsMatch graph.now pattern.now (same_by view.now.pairs) a b f.0 f.1) }
+    ensures none { IfNone result ((v w : List ℕ) → ¬ (IsMatch graph.now pattern.now (same_by view.now.pairs) a b v w)) }
+{
+    pattern_facts(pattern);
+    match search_placed(graph, plan, view, a, b) {
+        None => None,
+        Some(placed) => Some((by_slots(plan, &placed.0), by_slots(plan, &placed.1))),
+    }
+}
+
+/// Looks for a key with two valuations at `a` and `b` that coincide up to the view, and gives the first key that has
+/// some. None comes exactly where no key has any, whatever numbers `a` and `b` are. The plan at each place has to be
+/// that of the pattern there. It takes no memory.
+pub fn search(
+    graph: &Graph,
+    patterns: &[Pattern],
+    plans: &[Plan],
+    a: u32,
+    b: u32,
+    view: &View,
+) -> Option<Finding>
+    requires few { length patterns.now < 2 ^ 32 }
+    requires plans { ArePlans patterns.now plans.now }
+    ensures found { IfSome result (λ f. (Q : Shape) × (slice_get patterns.now f.key ≡ Some Q)
+        × IsMatch graph.now Q (same_by view.now.pairs) a b f.left f.right) }
+    ensures first { IfSome result (λ f. (k : ℕ) (Q : Shape) (v w : List ℕ) → k < f.key → slice_get patterns.now k ≡ Some Q →
+        ¬ (IsMatch graph.now Q (same_by view.now.pairs) a b v w)) }
+    ensures none { IfNone result (¬ (Matches graph.now patterns.now (same_by view.now.pairs) a b)) }
+{
+    for key in 0..patterns.len() {
+        let pattern = &patterns[key];
+        let plan = &plans[key];
+        if let Some(found) = search_key(graph, pattern, plan, view, a, b) {
+            return Some(Finding {
+                key: key as u32,
+                left: found.0,
+                right: found.1,
+            });
+        }
+    }
+    None
+}

@@ -1,0 +1,82 @@
+//! Two valuations, extended slot by slot.
+
+ghost use Rattle.std.specs.Prelude.{◌≡◌, ◌<◌, ◌++◌, [], ◌∷◌, ◌↔◌, List, ℕ, IsTrue, Some, IfSome, IfNone, length, slice_get};
+ghost use Rattle.chase_laws.specs.View.{same_by};
+ghost use Rattle.key_plan.specs.Route.{IsBlock};
+ghost use Rattle.paired_search.specs.Part.{IsPart, IsPair, IsReady, Completes};
+
+use crate::View;
+use crate::choices::{choices, constant_of, firsts, seconds};
+use crate::fits::{agree, goes_on};
+use chase_laws::{Edge, Places, Slot};
+use key_plan::Plan;
+use typed_graph::Graph;
+
+/// Whether two lists go on with one more name each, of which the left one is known to do.
+pub fn joins(
+    graph: &Graph,
+    plan: &Plan,
+    view: &View,
+    block: &[Edge],
+    slot: Slot,
+    left: &Places,
+    right: &Places,
+    m: u32,
+    n: u32,
+) -> bool
+    requires pair { IsPair graph.now plan.now.shape (same_by view.now.pairs) left.now right.now }
+    requires block { IsBlock plan.now.shape (length left.now) block.now }
+    requires slot { slice_get plan.now.shape.slots (length left.now) ≡ Some slot }
+    requires few { length left.now < 16 }
+    requires left { IsPart graph.now plan.now.shape (left.now ++ m ∷ []) }
+    ensures { IsTrue result ↔ IsPair graph.now plan.now.shape (same_by view.now.pairs) (left.now ++ m ∷ []) (right.now ++ n ∷ []) }
+{
+    if !agree(graph, view, left.len(), slot, m, n) {
+        return false;
+    }
+    goes_on(graph, plan, block, slot, right, n)
+}
+
+/// Two valuations that coincide and begin with these lists; None exactly where there are none.
+pub fn extend(
+    graph: &Graph,
+    plan: &Plan,
+    view: &View,
+    left: Places,
+    right: Places,
+) -> Option<(Places, Places)>
+    requires ready { IsReady plan.now.shape }
+    requires begun { 0 < length left }
+    requires pair { IsPair graph.now plan.now.shape (same_by view.now.pairs) left right }
+    ensures found { IfSome result (λ f. Completes graph.now plan.now.shape (same_by view.now.pairs) left right f.0 f.1) }
+    ensures none { IfNone result ((v w : List ℕ) → ¬ (Completes graph.now plan.now.shape (same_by view.now.pairs) left right v w)) }
+{
+    let s = left.len();
+    if s >= plan.len() {
+        return Some((left, right));
+    }
+    let slot = plan.slot(s);
+    let block = plan.block(s);
+    let constant = [constant_of(slot)];
+    let lefts = choices(graph, block, slot, &constant, &left);
+    let rights = choices(graph, block, slot, &constant, &right);
+    let tried = firsts(slot, lefts, rights);
+    for m in tried {
+        if goes_on(graph, plan, block, slot, &left, *m) {
+            let own = [*m];
+            let partners = seconds(slot, &own, rights);
+            let mut longer_left = left;
+            longer_left.push(*m);
+            for n in partners {
+                if joins(graph, plan, view, block, slot, &left, &right, *m, *n) {
+                    let mut longer_right = right;
+                    longer_right.push(*n);
+                    if let Some(found) = extend(graph, plan, view, longer_left, longer_right) {
+                        return Some(found);
+                    }
+                }
+            }
+        }
+    }
+    None
+}

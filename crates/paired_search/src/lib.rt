@@ -1,0 +1,26 @@
+//! The search for one key and two valuations of it, at two given names, that coincide up to what is known to be the
+//! same. What is known is a `View`: names with the labels that they had. The search goes through a key's slots by its
+//! plan and extends both valuations at once, so that what cannot coincide is dropped as soon as it shows; it takes no
+//! memory, and its answer is exact in both directions.
+//!
+//! - `view`: names with their labels
+//! - `planning`: the plans of all keys
+//! - `fits`: what one more name has to be
+//! - `choices`: which names may come next
+//! - `extend`: two valuations, extended slot by slot
+//! - `all_keys`: the search over all keys
+#![tactic(auto)]
+
+mod all_keys;
+mod choices;
+mod extend;
+mod fits;
+mod planning;
+mod view;
+
+pub use all_keys::{Finding, search};
+pub use planning::plan_all;
+pub use view::View;
+
+#[cfg(test)]
+mod tests;
