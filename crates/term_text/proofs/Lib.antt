@@ -1,0 +1,9 @@
+pub mod AppendLemmas
+pub mod ReadBack
+pub mod Sorting
+pub mod MemberOrder
+pub mod Places
+pub mod LineSteps
+pub mod Choosing
+pub mod Ordered
+pub mod ReportLaw

@@ -1,0 +1,98 @@
+//! The canonical text of terms and triples.
+
+ghost use Rattle.std.specs.Prelude.{◌≡◌, ◌++◌, OnOk, OnErr, length};
+ghost use Rattle.term_text.specs.CanonicalText.{iri_text, string_text, term_text, triple_text};
+ghost use Rattle.term_text.specs.Appending.{BeginsWith};
+ghost use Rattle.term_text.specs.ReadBack.{CanBeSpelled};
+ghost use Rattle.nt_lex.specs.Reading.{Reads};
+
+use crate::escapes::{Inside, put, put_escaped};
+use gk_base::{NoMemory, Term, Triple};
+
+/// Appends the canonical text of a term. After `NoMemory` the buffer holds what it held before.
+pub fn put_term(buf: &mut Vec<u8>, term: &Term) -> Result<(), NoMemory>
+    ensures ok { OnOk result (buf.new.items ≡ buf.old.items ++ term_text term.now) }
+
+    // Reading what was appended gives the term again, where N-Triples can spell it.
+    ensures read_back { OnOk result (CanBeSpelled term.now
+        → Reads buf.new.items (length buf.old.items) term.now (length buf.new.items)) }
+    ensures err { OnErr result (buf.new.items ≡ buf.old.items) }
+{
+    let before = buf.len();
+    let done = append_term(buf, term);
+    if done.is_err() {
+        buf.truncate(before);
+    }
+    done
+}
+
+/// Appends the canonical text of a triple, which ends with LF. After `NoMemory` the buffer holds what it held before.
+pub fn put_triple(buf: &mut Vec<u8>, triple: &Triple) -> Result<(), NoMemory>
+    ensures ok { OnOk result (buf.new.items ≡ buf.old.items ++ triple_text triple.now) }
+    ensures err { OnErr result (buf.new.items ≡ buf.old.items) }
+{
+    let before = buf.len();
+    let done = append_triple(buf, triple);
+    if done.is_err() {
+        buf.truncate(before);
+    }
+    done
+}
+
+fn append_triple(buf: &mut Vec<u8>, triple: &Triple) -> Result<(), NoMemory>
+    ensures ok { OnOk result (buf.new.items ≡ buf.old.items ++ triple_text triple.now) }
+    ensures kept { BeginsWith buf.old.items buf.new.items }
+{
+    append_term(buf, &triple.subject)?;
+    put(buf, b" ")?;
+    append_term(buf, &triple.predicate)?;
+    put(buf, b" ")?;
+    append_term(buf, &triple.object)?;
+    put(buf, b" .\n")
+}
+
+fn append_term(buf: &mut Vec<u8>, term: &Term) -> Result<(), NoMemory>
+    ensures ok { OnOk result (buf.new.items ≡ buf.old.items ++ term_text term.now) }
+    ensures kept { BeginsWith buf.old.items buf.new.items }
+{
+    match term {
+        Term::Iri(name) => append_iri(buf, name.bytes()),
+        Term::Blank(label) => append_marked(buf, b"_:", label.bytes()),
+        Term::Plain(form) => append_string(buf, form.bytes()),
+        Term::Typed(form, datatype) => {
+            append_string(buf, form.bytes())?;
+            put(buf, b"^^")?;
+            append_iri(buf, datatype.bytes())
+        }
+        Term::Lang(form, tag) => {
+            append_string(buf, form.bytes())?;
+            append_marked(buf, b"@", tag.bytes())
+        }
+    }
+}
+
+fn append_marked(buf: &mut Vec<u8>, mark: &[u8], text: &[u8]) -> Result<(), NoMemory>
+    ensures ok { OnOk result (buf.new.items ≡ buf.old.items ++ (mark.now ++ text.now)) }
+    ensures kept { BeginsWith buf.old.items buf.new.items }
+{
+    put(buf, mark)?;
+    put(buf, text)
+}
+
+fn append_iri(buf: &mut Vec<u8>, name: &[u8]) -> Result<(), NoMemory>
+    ensures ok { OnOk result (buf.new.items ≡ buf.old.items ++ iri_text name.now) }
+    ensures kept { BeginsWith buf.old.items buf.new.items }
+{
+    put(buf, b"<")?;
+    put_escaped(buf, name, Inside::Brackets)?;
+    put(buf, b">")
+}
+
+fn append_string(buf: &mut Vec<u8>, form: &[u8]) -> Result<(), NoMemory>
+    ensures ok { OnOk result (buf.new.items ≡ buf.old.items ++ string_text form.now) }
+    ensures kept { BeginsWith buf.old.items buf.new.items }
+{
+    put(buf, b"\"")?;
+    put_escaped(buf, form, Inside::Quotes)?;
+    put(buf, b"\"")
+}
