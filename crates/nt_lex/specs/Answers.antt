@@ -1,0 +1,21 @@
+-- What a reader answers, against what is to be answered. Want of memory may come at any time. This project's own words.
+use Rattle.std.specs.Prelude.{◌≡◌, Result, Ok, Err}
+use Rattle.gk_base.specs.declared.lex_fault.LexFault.{LexFault}
+use Rattle.gk_base.specs.declared.lex_fault.LexStop.{LexStop}
+use Rattle.gk_base.specs.declared.lex_fault.LexStop.TheVariants.{NoMemory, Fault}
+
+-- what was answered is to be answered
+abbrev pub IsSo : {A : Type 0} → (Result A LexFault → Type 0) → Result A LexStop → Type 0
+IsSo Says (Ok x) = Says (Ok x)
+IsSo Says (Err NoMemory) = Unit {0}
+IsSo Says (Err (Fault fault)) = Says (Err fault)
+
+-- this is what was answered
+abbrev pub Gives : {A : Type 0} → Result A LexStop → Result A LexFault → Type 0
+Gives (Ok x) answer = Ok x ≡ answer
+Gives (Err NoMemory) answer = Unit {0}
+Gives (Err (Fault fault)) answer = Err fault ≡ answer
+
+-- at most one answer is to be given
+abbrev pub HasOne : {A : Type 0} → (Result A LexFault → Type 0) → Type 0
+HasOne {A} Says = (a b : Result A LexFault) → Says a → Says b → a ≡ b

@@ -1,0 +1,109 @@
+//! Literals.
+
+ghost use Rattle.std.specs.Prelude.{◌≡◌, ◌<◌, ◌≤◌, ◌↔◌, length, slice_index, IsUtf8, IsTrue, IfOk, ℕ, Result};
+ghost use Rattle.std.specs.Str.{IsCharBoundary};
+ghost use Rattle.gk_base.specs.declared.term.Term.{Term};
+ghost use Rattle.gk_base.specs.declared.lex_fault.LexFault.{LexFault};
+ghost use Rattle.nt_lex.specs.Answers.{IsSo, Gives};
+ghost use Rattle.nt_lex.specs.Spelling.{xsd_string, HasDatatype};
+ghost use Rattle.nt_lex.specs.Parts.{SuffixSays};
+ghost use Rattle.nt_lex.specs.Reading.{Says};
+
+use crate::body::string_body;
+use crate::iri::iri_text;
+use crate::scan::byte_at;
+use crate::space::skip_space;
+use crate::tag::{lowered, tag_end};
+use gk_base::{LexFault, LexStop, Term, Text};
+use std::alloc::Global;
+
+const XSD_STRING: &[u8; 39] = b"http://www.w3.org/2001/XMLSchema#string";
+
+fn is_xsd_string(iri: &[u8]) -> bool
+    ensures { IsTrue result ↔ (iri.now ≡ xsd_string) }
+{
+    iri == XSD_STRING.as_slice()
+}
+
+fn with_datatype(form: Text, datatype: Text) -> Term
+    ensures { HasDatatype form datatype result }
+{
+    if is_xsd_string(datatype.bytes()) {
+        Term::Plain(form)
+    } else {
+        Term::Typed(form, datatype)
+    }
+}
+
+/// Reads what stands after a string that closed before `close`.
+fn read_suffix(
+    alloc: Global,
+    line: &[u8],
+    form: Text,
+    close: usize,
+) -> Result<(Term, usize), LexStop>
+    requires inside { close ≤ length line.now }
+    requires utf8 { IsUtf8 line.now }
+    ensures { IsSo (SuffixSays line.now form close) result }
+{
+    let next = skip_space(line, close);
+    if byte_at(line, next) == b'^' && byte_at(line, next + 1) == b'^' {
+        let begin = skip_space(line, next + 2);
+        if byte_at(line, begin) != b'<' {
+            return Err(LexStop::Fault(LexFault::BadIri));
+        }
+        return match iri_text(alloc, line, begin) {
+            Ok((iri, end)) => Ok((with_datatype(form, Text::from_vec(iri)), end)),
+            Err(stop) => Err(stop),
+        };
+    }
+    if byte_at(line, next) == b'@' {
+        return match tag_end(line, next + 1) {
+            Some(end) => {
+                let tag = lowered(alloc, &line[next + 1..end])?;
+                Ok((Term::Lang(form, Text::from_vec(tag)), end))
+            }
+            None => Err(LexStop::Fault(LexFault::BadLanguageTag)),
+        };
+    }
+    Ok((Term::Plain(form), close))
+}
+
+#[tactic(auto, using(crate::proofs::AnswerLemmas::utf_after_byte))]
+pub(crate) fn literal_answer(
+    alloc: Global,
+    line: &[u8],
+    at: usize,
+) -> Result<(Term, usize), LexStop>
+    requires inside { at < length line.now }
+    requires opens { slice_index line.now at ≡ 0x22 }
+    requires utf8 { IsUtf8 line.now }
+    ensures { IsSo (Says line.now at) result }
+{
+    let (text, end) = string_body(alloc, line, at + 1)?;
+    let byte = byte_at(line, end);
+    if byte == b'"' {
+        return read_suffix(alloc, line, Text::from_vec(text), end + 1);
+    }
+    if byte == b'\\' {
+        return Err(LexStop::Fault(LexFault::BadEscape));
+    }
+    Err(LexStop::Fault(LexFault::StringNotClosed))
+}
+
+/// Reads the literal whose `"` stands at `at`, and gives the place after it. The line is UTF-8.
+///
+/// Faults: `BadEscape` and `StringNotClosed` in its string, `BadLanguageTag`, and those of the IRI of its
+/// datatype, where `BadIri` comes too when no `<` follows `^^`.
+pub fn read_literal(alloc: Global, line: &[u8], at: usize) -> Result<(Term, usize), LexStop>
+    requires inside { at < length line.now }
+    requires opens { slice_index line.now at ≡ 0x22 }
+    requires utf8 { IsUtf8 line.now }
+    // What was answered is what stands there.
+    ensures so { IsSo (Says line.now at) result }
+    // What stands there was answered, unless memory ran out.
+    ensures only { (answer : Result (Term × ℕ) LexFault) → Says line.now at answer → Gives result answer }
+    ensures boundary { IfOk result (λ r. IsCharBoundary line.now r.1) }
+{
+    literal_answer(alloc, line, at)
+}
