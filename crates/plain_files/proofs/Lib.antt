@@ -1,0 +1,4 @@
+pub mod PlainLemmas
+pub mod KeyLemmas
+pub mod FactLemmas
+pub mod CompileLemmas
