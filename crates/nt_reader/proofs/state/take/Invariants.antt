@@ -1,0 +1,14 @@
+use Rattle.std.proofs.Common.{◌≡◌, ℕ, ◌-◌, ◌+◌, ◌≤◌, List, ◌++◌, length, take}
+use Rattle.nt_reader.specs.Kept.{Stands}
+use Rattle.nt_reader.proofs.state.take.Given as goal
+
+abbrev pub invariant-lines : goal.invariant-lines
+invariant-lines l = record {
+  inside : l.from ≤ length l.piece;
+  bytes : l.state.bytes ≡ l.initial.state.bytes + l.from;
+  line : l.state.line ≤ l.state.bytes + 1;
+  stands : (seen : List ℕ) → Stands l.limits l.initial.state seen → Stands l.limits l.state (seen ++ take l.from l.piece);
+}
+
+abbrev pub decreases-lines : goal.decreases-lines
+decreases-lines l = length l.piece - l.from
