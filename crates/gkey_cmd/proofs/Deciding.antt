@@ -1,0 +1,126 @@
+-- How a run ends, from what was read.
+use Rattle.std.proofs.Common.{List, [], ◌∷◌, ◌++◌, ℕ, Option, Some, Result, Ok, Err, IfSome, MatchResult, Vec, Global, vec_items, ◌≡◌, ◌∙◌, inl, inr, refl, sym, subst}
+use Rattle.gk_base.specs.declared.limits.Limits.{Limits}
+use Rattle.gk_io.specs.Cause.{Rose}
+use Rattle.gk_io.specs.declared.shelf.Shelf
+use Rattle.gk_base.specs.declared.term.Triple.{Triple}
+use Rattle.gk_io.specs.Files.{bytes_of}
+use Rattle.plain_files.specs.KeyText.{KeyText}
+use Rattle.gkey_cmd.specs.Commands.{Wanted, Matching, files_of}
+use Rattle.gkey_cmd.specs.Reading.{NamedFiles, IsAccepted, GraphSays, KeysSay, IsRefusedSo, AllAccepted, FirstRefused, Refusal, MorePairsThan}
+use Rattle.gkey_cmd.specs.Matched.{IsReport, HasTooManyPairs}
+use Rattle.gkey_cmd.specs.Written.{HasMorePairs, IsAnswered, IsRefused}
+use Rattle.gkey_cmd.specs.Stops.{MatchEnds}
+use Rattle.gkey_cmd.specs.Causes.{HasFailed, Stopped, ReadBy, ReadSoFar}
+use Rattle.gkey_cmd.specs.declared.file.File.{File}
+use Rattle.gkey_cmd.specs.declared.ending.Answer.TheVariants.{Given}
+use Rattle.gkey_cmd.specs.declared.ending.Ending.{Ending}
+use Rattle.gkey_cmd.specs.declared.ending.Ending.TheVariants.{NoRow, Failed, Refused, NoMemory, Done}
+use Rattle.gkey_cmd.proofs.Told.{told, told_both}
+
+-- after accepted files the first refused one is that of the others
+refused_after : (limits : Limits) (files : NamedFiles) (before others : List (File × List ℕ)) (refusal : Refusal) →
+    AllAccepted limits files before → FirstRefused limits files others refusal → FirstRefused limits files (before ++ others) refusal
+refused_after limits files [] others refusal h r = r
+refused_after limits files (file ∷ before) others refusal h r = inr (h.0, refused_after limits files before others refusal h.1 r)
+
+-- one more accepted file
+accepted_more : (limits : Limits) (files : NamedFiles) (before : List (File × List ℕ)) (file : File) (name : List ℕ) →
+    AllAccepted limits files before → IsAccepted limits files file name → AllAccepted limits files (before ++ (file, name) ∷ [])
+accepted_more limits files [] file name h k = (k, tt)
+accepted_more limits files (first ∷ before) file name h k = (h.0, accepted_more limits files before file name h.1 k)
+
+-- nothing was read yet
+pub read_none : {K : Type 0} (shelf : Shelf.Ghosts K) (old : K) (limits : Limits) → ReadSoFar shelf old old limits []
+read_none shelf old limits = record { count = refl; held = refl; accepted = told (shelf.held old) _ (λ files. tt) }
+
+module _ {K : Type 0} (shelf : Shelf.Ghosts K) (old mid new : K) (limits : Limits) (before : List (File × List ℕ)) (file : File) (name : List ℕ) (so_far : ReadSoFar shelf old mid limits before) where
+  -- what is told of the files now was told at first
+  pub told_first : (P : NamedFiles → Type 0) → IfSome (shelf.held mid) P → IfSome (shelf.held old) P
+  told_first P h = subst (λ o. IfSome o P) so_far.held h
+
+  -- the next file was read and is accepted
+  pub read_next : IfSome (shelf.held mid) (λ files. IsAccepted limits files file name) → shelf.faults new ≡ shelf.faults mid →
+      shelf.held new ≡ shelf.held mid → ReadSoFar shelf old new limits (before ++ (file, name) ∷ [])
+  read_next accepted count same = record {
+    count = count ∙ so_far.count;
+    held = same ∙ so_far.held;
+    accepted = told_both (shelf.held old) (λ files. AllAccepted limits files before) (λ files. IsAccepted limits files file name) _
+        (λ files a e. accepted_more limits files before file name a e) so_far.accepted (told_first _ accepted);
+  }
+
+  -- the next file is not to be had
+  pub stopped : {A : Type 0} (Says : NamedFiles → A → Type 0) (command : Wanted) (after : List (File × List ℕ)) → files_of command ≡ before ++ (file, name) ∷ after →
+      (ending : Ending) → ReadBy shelf mid new file name limits Says (Err ending) → Stopped shelf old new command limits ending
+  stopped Says command after e NoRow h = absurd h
+  stopped Says command after e (Failed which) h =
+      let P : File → Type 0 = λ f. HasFailed shelf old new command limits f in
+      subst P (sym h.0) (record {
+        before = before;
+        name = name;
+        after = after;
+        stands = e;
+        rose = subst (λ n. Rose n (shelf.faults new)) so_far.count h.1;
+        asked_for = h.2;
+        is_bad = h.3;
+        accepted = so_far.accepted;
+      })
+  stopped Says command after e (Refused text) h = (
+    h.0 ∙ so_far.count,
+    (
+      h.1.0,
+      h.1.1,
+      told_both (shelf.held old) (λ files. AllAccepted limits files before) (λ files. IsRefusedSo limits files file name h.1.0) _
+          (λ files a k. inl (subst (λ fs. FirstRefused limits files fs h.1.0) (sym e) (refused_after limits files before ((file, name) ∷ after) h.1.0 a (inl k))))
+          so_far.accepted (told_first _ h.1.2),
+    ),
+  )
+  stopped Says command after e NoMemory h = h ∙ so_far.count
+  stopped Says command after e (Done answer text) h = absurd h
+
+-- ---- a match
+
+module _ (limits : Limits) (files : NamedFiles) (graph keys : List ℕ) (triples : List Triple) (key : Option KeyText) (in_graph : GraphSays limits (bytes_of files graph) (Ok triples)) (in_keys : KeysSay limits (bytes_of files keys) (Ok key)) where
+  both_accepted : AllAccepted limits files (files_of (Matching graph keys))
+  both_accepted = ((triples, in_graph), ((key, in_keys), tt))
+
+  more_here : HasTooManyPairs triples key limits.pairs → HasMorePairs limits files (Matching graph keys)
+  more_here h = (triples, key, in_graph, in_keys, h)
+
+  more_only_here : HasMorePairs limits files (Matching graph keys) → HasTooManyPairs triples key limits.pairs
+  more_only_here h =
+      let g = h.2 in
+      let k = h.3 in
+      let same_triples : h.0 ≡ triples = cc in
+      let same_key : h.1 ≡ key = cc in
+      subst (λ ts. HasTooManyPairs ts key limits.pairs) same_triples (subst (λ q. HasTooManyPairs h.0 q limits.pairs) same_key h.4)
+
+  pub is_answered : (text : List ℕ) → IsReport triples key text → ¬ (HasTooManyPairs triples key limits.pairs) → IsAnswered (Some (Matching graph keys)) files limits Given text
+  is_answered text report none_more = ((both_accepted, (λ h. none_more (more_only_here h))), (triples, key, in_graph, in_keys, report))
+
+  pub is_refused : HasTooManyPairs triples key limits.pairs → IsRefused (Some (Matching graph keys)) files limits (MorePairsThan limits.pairs)
+  is_refused h = inr (both_accepted, more_here h, refl)
+
+module _ {K : Type 0} (shelf : Shelf.Ghosts K) (old new : K) (limits : Limits) (graph keys : List ℕ) (triples : List Triple) (key : Option KeyText) (count : shelf.faults new ≡ shelf.faults old)
+    (in_graph : IfSome (shelf.held old) (λ files. GraphSays limits (bytes_of files graph) (Ok triples))) (in_keys : IfSome (shelf.held old) (λ files. KeysSay limits (bytes_of files keys) (Ok key))) where
+  -- a match that ends so leaves the run so
+  pub match_ended : (result : Result (Vec ℕ Global) Ending) → MatchEnds triples key limits.pairs result →
+      MatchResult result (λ text. Stopped shelf old new (Matching graph keys) limits (Done Given text)) (Stopped shelf old new (Matching graph keys) limits)
+  match_ended (Ok text) h = (
+    count,
+    told_both (shelf.held old) _ _ (λ files. IsAnswered (Some (Matching graph keys)) files limits Given (vec_items text))
+        (λ files g k. is_answered limits files graph keys triples key g k (vec_items text) h.0 h.1) in_graph in_keys,
+  )
+  match_ended (Err (Refused text)) h = (
+    count,
+    (
+      MorePairsThan limits.pairs,
+      h.0,
+      told_both (shelf.held old) _ _ (λ files. IsRefused (Some (Matching graph keys)) files limits (MorePairsThan limits.pairs))
+          (λ files g k. is_refused limits files graph keys triples key g k h.1) in_graph in_keys,
+    ),
+  )
+  match_ended (Err NoMemory) h = count
+  match_ended (Err NoRow) h = absurd h
+  match_ended (Err (Failed file)) h = absurd h
+  match_ended (Err (Done answer text)) h = absurd h

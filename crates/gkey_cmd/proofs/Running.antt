@@ -1,0 +1,206 @@
+-- What a run leaves, from how it ends.
+use Rattle.std.proofs.Common.{List, [], ◌∷◌, ℕ, Option, Some, None, IfSome, vec_items, ◌≡◌, ◌≢◌, ◌∙◌, inl, inr, refl, sym, ap, subst, append-nil, arith}
+use Rattle.gk_base.specs.declared.limits.Limits.{Limits}
+use Rattle.gk_io.specs.Cause.{Rose}
+use Rattle.gk_io.specs.Taken.{Appends}
+use Rattle.gk_io.specs.declared.shelf.Shelf
+use Rattle.gk_io.specs.declared.sink.Sink
+use Rattle.gkey_cmd.specs.Commands.{Wanted, files_of}
+use Rattle.gkey_cmd.specs.Reading.{NamedFiles, IsAccepted, IsRefusedSo, AllAccepted, FirstRefused, Refusal, InGraph, InKeys, MorePairsThan, refused_text}
+use Rattle.gkey_cmd.specs.Sent.{TookAll, TookLess, Sent}
+use Rattle.gkey_cmd.specs.Written.{usage, write_failed, status_of, IsAnswer, IsRefused, AreAccepted, IsAnswered, Written, AsNoCommand, AsRefused, AsAnswered}
+use Rattle.gkey_cmd.specs.Causes.{Caused, Ends}
+use Rattle.gkey_cmd.specs.declared.file.File.{File}
+use Rattle.gkey_cmd.specs.declared.file.File.TheVariants.{Graph, Keys}
+use Rattle.gkey_cmd.specs.declared.ending.Answer.{Answer}
+use Rattle.gkey_cmd.specs.declared.ending.Answer.TheVariants.{Given}
+use Rattle.gkey_cmd.specs.declared.ending.Ending.{Ending}
+use Rattle.gkey_cmd.specs.declared.ending.Ending.TheVariants.{NoRow, Failed, Refused, NoMemory, Done}
+use Rattle.gkey_cmd.proofs.Told.{told, told_more}
+
+-- ---- sinks that took nothing
+
+appends_nothing : (taken : Option (List ℕ)) → Appends taken taken []
+appends_nothing None = tt
+appends_nothing (Some bytes) = sym (append-nil bytes)
+
+-- a sink that is as before took the whole of nothing
+took_nothing : {O : Type 0} (sink : Sink.Ghosts O) (old new : O) → new ≡ old → TookAll sink old new []
+took_nothing sink old new e = record {
+  count = ap (λ s. sink.faults s) e;
+  bytes = subst (λ s. Appends (sink.taken old) (sink.taken s) []) (sym e) (appends_nothing (sink.taken old));
+}
+
+-- ---- statuses
+
+is_answer : (answer : Answer) → IsAnswer (status_of answer)
+is_answer Given = inl refl
+
+not_four : (answer : Answer) → status_of answer ≡ 4 → ⊥
+not_four Given e = omega arith
+
+no_answer : (status other : ℕ) → status ≡ other → 1 ≢ other → 0 ≢ other → IsAnswer status → ⊥
+no_answer status other e one zero h = elim h [ inl k ↦ zero (sym k ∙ e) | inr k ↦ one (sym k ∙ e) ]
+
+-- ---- a file is accepted, or refused in one way
+
+refused_once : (limits : Limits) (files : NamedFiles) (file : File) (name : List ℕ) (r s : Refusal) → IsRefusedSo limits files file name r → IsRefusedSo limits files file name s → r ≡ s
+refused_once limits files Graph name (InGraph r) (InGraph s) h k = cc
+refused_once limits files Graph name (InGraph r) (InKeys s) h k = absurd k
+refused_once limits files Graph name (InGraph r) (MorePairsThan n) h k = absurd k
+refused_once limits files Graph name (InKeys r) s h k = absurd h
+refused_once limits files Graph name (MorePairsThan n) s h k = absurd h
+refused_once limits files Keys name (InKeys r) (InKeys s) h k = cc
+refused_once limits files Keys name (InKeys r) (InGraph s) h k = absurd k
+refused_once limits files Keys name (InKeys r) (MorePairsThan n) h k = absurd k
+refused_once limits files Keys name (InGraph r) s h k = absurd h
+refused_once limits files Keys name (MorePairsThan n) s h k = absurd h
+
+not_both : (limits : Limits) (files : NamedFiles) (file : File) (name : List ℕ) (r : Refusal) → IsRefusedSo limits files file name r → IsAccepted limits files file name → ⊥
+not_both limits files Graph name (InGraph r) h k = let a = k.1 in cc
+not_both limits files Graph name (InKeys r) h k = h
+not_both limits files Keys name (InKeys r) h k = let a = k.1 in cc
+not_both limits files Keys name (InGraph r) h k = h
+not_both limits files Graph name (MorePairsThan n) h k = h
+not_both limits files Keys name (MorePairsThan n) h k = h
+
+first_once : (limits : Limits) (files : NamedFiles) (list : List (File × List ℕ)) (r s : Refusal) → FirstRefused limits files list r → FirstRefused limits files list s → r ≡ s
+first_once limits files [] r s h k = absurd h
+first_once limits files (file ∷ others) r s (inl h) (inl k) = refused_once limits files file.0 file.1 r s h k
+first_once limits files (file ∷ others) r s (inl h) (inr k) = absurd (not_both limits files file.0 file.1 r h k.0)
+first_once limits files (file ∷ others) r s (inr h) (inl k) = absurd (not_both limits files file.0 file.1 s k h.0)
+first_once limits files (file ∷ others) r s (inr h) (inr k) = first_once limits files others r s h.1 k.1
+
+not_accepted : (limits : Limits) (files : NamedFiles) (list : List (File × List ℕ)) (r : Refusal) → FirstRefused limits files list r → AllAccepted limits files list → ⊥
+not_accepted limits files [] r h k = h
+not_accepted limits files (file ∷ others) r (inl h) k = not_both limits files file.0 file.1 r h k.0
+not_accepted limits files (file ∷ others) r (inr h) k = not_accepted limits files others r h.1 k.1
+
+-- a command is refused in one way
+refusal_once : (limits : Limits) (files : NamedFiles) (command : Wanted) (r s : Refusal) → IsRefused (Some command) files limits r → IsRefused (Some command) files limits s → r ≡ s
+refusal_once limits files command r s (inl h) (inl k) = first_once limits files (files_of command) r s h k
+refusal_once limits files command r s (inl h) (inr k) = absurd (not_accepted limits files (files_of command) r h k.0)
+refusal_once limits files command r s (inr h) (inl k) = absurd (not_accepted limits files (files_of command) s k h.0)
+refusal_once limits files command r s (inr h) (inr k) = h.2 ∙ sym k.2
+
+-- it is not refused where it is accepted
+not_refused : (limits : Limits) (files : NamedFiles) (command : Wanted) (r : Refusal) → IsRefused (Some command) files limits r → AreAccepted (Some command) files limits → ⊥
+not_refused limits files command r (inl h) k = not_accepted limits files (files_of command) r h k.0
+not_refused limits files command r (inr h) k = k.1 h.1
+
+-- ---- a whole run
+
+module _ {K O E : Type 0} (shelf : Shelf.Ghosts K) (out : Sink.Ghosts O) (err : Sink.Ghosts E) (old new : K) (o o' : O) (e e' : E) (command : Option Wanted) (limits : Limits) (status : ℕ) where
+  abbrev pub WritesAll : NamedFiles → Type 0
+  WritesAll files = status ≢ 3 → status ≢ 4 → status ≢ 5 →
+      (output error : List ℕ) × Written command files limits status output error × TookAll out o o' output × Sent err e e' error
+
+  pub written_of : (ending : Ending) → Caused shelf old new command limits ending → Ends out err o o' e e' ending status → IfSome (shelf.held old) WritesAll
+  written_of NoRow c d = told (shelf.held old) _ (λ files n3 n4 n5. ([], usage, AsNoCommand c.0 d.0 refl refl, took_nothing out o o' d.1, d.2))
+  written_of (Failed file) c d = told (shelf.held old) _ (λ files n3 n4 n5. absurd (n3 d.0))
+  written_of (Refused text) c d = told_more (shelf.held old) (λ files. IsRefused (Some c.0) files limits c.2.1.0) _
+      (λ files r n3 n4 n5. (
+        [],
+        vec_items text,
+        AsRefused c.2.1.0 (subst (λ w. IsRefused w files limits c.2.1.0) (sym c.1) r) d.0 refl c.2.1.1,
+        took_nothing out o o' d.1,
+        d.2,
+      )) c.2.1.2
+  written_of NoMemory c d = told (shelf.held old) _ (λ files n3 n4 n5. absurd (n5 d.0))
+  written_of (Done answer text) c d = told_more (shelf.held old) (λ files. IsAnswered (Some c.0) files limits answer (vec_items text)) _
+      (λ files a n3 n4 n5. elim d [
+        | inl w ↦ (
+          vec_items text,
+          [],
+          AsAnswered answer (subst (λ x. IsAnswered x files limits answer (vec_items text)) (sym c.1) a) w.0 refl,
+          w.1,
+          inl (took_nothing err e e' w.2),
+        )
+        | inr w ↦ absurd (n4 w.0)
+      ]) c.2.1
+
+  abbrev pub NamesRefusal : NamedFiles → Type 0
+  NamesRefusal files = (refusal : Refusal) → IsRefused command files limits refusal → ¬ (Rose (shelf.faults old) (shelf.faults new)) →
+      status ≢ 5 → (status ≡ 2) × Sent err e e' (refused_text refusal)
+
+  pub refuses_of : (ending : Ending) → Caused shelf old new command limits ending → Ends out err o o' e e' ending status → IfSome (shelf.held old) NamesRefusal
+  refuses_of NoRow c d = told (shelf.held old) _ (λ files r h n n5. absurd (subst (λ w. IsRefused w files limits r) c.0 h))
+  refuses_of (Failed file) c d = told (shelf.held old) _ (λ files r h n n5. absurd (n c.2.rose))
+  refuses_of (Refused text) c d = told_more (shelf.held old) (λ files. IsRefused (Some c.0) files limits c.2.1.0) _
+      (λ files k r h n n5.
+      let same : c.2.1.0 ≡ r = refusal_once limits files c.0 c.2.1.0 r k (subst (λ w. IsRefused w files limits r) c.1 h) in
+      (d.0, subst (λ t. Sent err e e' t) (c.2.1.1 ∙ ap refused_text same) d.2)) c.2.1.2
+  refuses_of NoMemory c d = told (shelf.held old) _ (λ files r h n n5. absurd (n5 d.0))
+  refuses_of (Done answer text) c d = told_more (shelf.held old) (λ files. IsAnswered (Some c.0) files limits answer (vec_items text)) _
+      (λ files a r h n n5. absurd (not_refused limits files c.0 r (subst (λ w. IsRefused w files limits r) c.1 h) a.0)) c.2.1
+
+  abbrev pub IsAnsweredThen : NamedFiles → Type 0
+  IsAnsweredThen files = AreAccepted command files limits → ¬ (Rose (shelf.faults old) (shelf.faults new)) →
+      ¬ (Rose (out.faults o) (out.faults o')) → status ≢ 5 → IsAnswer status
+
+  pub answers_of : (ending : Ending) → Caused shelf old new command limits ending → Ends out err o o' e e' ending status → IfSome (shelf.held old) IsAnsweredThen
+  answers_of NoRow c d = told (shelf.held old) _ (λ files h n m n5. absurd (subst (λ w. AreAccepted w files limits) c.0 h))
+  answers_of (Failed file) c d = told (shelf.held old) _ (λ files h n m n5. absurd (n c.2.rose))
+  answers_of (Refused text) c d = told_more (shelf.held old) (λ files. IsRefused (Some c.0) files limits c.2.1.0) _
+      (λ files k h n m n5. absurd (not_refused limits files c.0 c.2.1.0 k (subst (λ w. AreAccepted w files limits) c.1 h))) c.2.1.2
+  answers_of NoMemory c d = told (shelf.held old) _ (λ files h n m n5. absurd (n5 d.0))
+  answers_of (Done answer text) c d = told (shelf.held old) _ (λ files h n m n5. elim d [
+    | inl w ↦ subst IsAnswer (sym w.0) (is_answer answer)
+    | inr w ↦ absurd (m w.1.rose)
+  ])
+
+  pub done_of : (ending : Ending) → Caused shelf old new command limits ending → Ends out err o o' e e' ending status → IsAnswer status →
+      (e' ≡ e) × ((answer : Answer) × (output : List ℕ) × (status ≡ status_of answer) × TookAll out o o' output
+      × IfSome (shelf.held old) (λ files. IsAnswered command files limits answer output))
+  done_of NoRow c d h = absurd (no_answer status 64 d.0 (λ k. omega arith) (λ k. omega arith) h)
+  done_of (Failed file) c d h = absurd (no_answer status 3 d.0 (λ k. omega arith) (λ k. omega arith) h)
+  done_of (Refused text) c d h = absurd (no_answer status 2 d.0 (λ k. omega arith) (λ k. omega arith) h)
+  done_of NoMemory c d h = absurd (no_answer status 5 d.0 (λ k. omega arith) (λ k. omega arith) h)
+  done_of (Done answer text) c (inl w) h = (
+    w.2,
+    (
+      answer,
+      vec_items text,
+      w.0,
+      w.1,
+      told_more (shelf.held old) (λ files. IsAnswered (Some c.0) files limits answer (vec_items text)) _
+          (λ files a. subst (λ x. IsAnswered x files limits answer (vec_items text)) (sym c.1) a) c.2.1,
+    ),
+  )
+  done_of (Done answer text) c (inr w) h = absurd (no_answer status 4 w.0 (λ k. omega arith) (λ k. omega arith) h)
+
+  pub refused_of : (ending : Ending) → Caused shelf old new command limits ending → Ends out err o o' e e' ending status → status ≡ 2 →
+      (refusal : Refusal) × Sent err e e' (refused_text refusal) × IfSome (shelf.held old) (λ files. IsRefused command files limits refusal)
+  refused_of NoRow c d two = absurd (omega arith)
+  refused_of (Failed file) c d two = absurd (omega arith)
+  refused_of (Refused text) c d two = (
+    c.2.1.0,
+    subst (λ t. Sent err e e' t) c.2.1.1 d.2,
+    told_more (shelf.held old) (λ files. IsRefused (Some c.0) files limits c.2.1.0) _
+        (λ files r. subst (λ w. IsRefused w files limits c.2.1.0) (sym c.1) r) c.2.1.2,
+  )
+  refused_of NoMemory c d two = absurd (omega arith)
+  refused_of (Done answer text) c (inl w) two = absurd (no_two answer (sym w.0 ∙ two))
+    where
+      no_two : (a : Answer) → status_of a ≡ 2 → ⊥
+      no_two Given k = omega arith
+  refused_of (Done answer text) c (inr w) two = absurd (let four = w.0 in omega arith)
+
+  pub unwritten_of : (ending : Ending) → Caused shelf old new command limits ending → Ends out err o o' e e' ending status → status ≡ 4 →
+      Sent err e e' write_failed × ((answer : Answer) × (output : List ℕ) × TookLess out o o' output
+      × IfSome (shelf.held old) (λ files. IsAnswered command files limits answer output))
+  unwritten_of NoRow c d four = absurd (omega arith)
+  unwritten_of (Failed file) c d four = absurd (omega arith)
+  unwritten_of (Refused text) c d four = absurd (omega arith)
+  unwritten_of NoMemory c d four = absurd (omega arith)
+  unwritten_of (Done answer text) c (inl w) four = absurd (not_four answer (sym w.0 ∙ four))
+  unwritten_of (Done answer text) c (inr w) four = (
+    w.2,
+    (
+      answer,
+      vec_items text,
+      w.1,
+      told_more (shelf.held old) (λ files. IsAnswered (Some c.0) files limits answer (vec_items text)) _
+          (λ files a. subst (λ x. IsAnswered x files limits answer (vec_items text)) (sym c.1) a) c.2.1,
+    ),
+  )

@@ -1,0 +1,8 @@
+-- What interning gives is the row.
+use Rattle.gkey_cmd.proofs.Rows.{interned_row}
+use Rattle.gkey_cmd.proofs.numbering.row_of.Goals as goal
+
+pub returns-clause-row : goal.returns-clause-row
+returns-clause-row c =
+    interned_row c.intern.new.self c.intern-2.new.self c.intern-3.new.self c.args.triple c.in_ok-subject.subject c.in_ok-predicate.predicate c.in_ok-object.object
+    c.in_ok-subject.ensures.place c.in_ok-predicate.ensures.ok c.in_ok-predicate.ensures.place c.in_ok-object.ensures.ok c.in_ok-object.ensures.place c.in_ok-object.ensures.distinct

@@ -1,0 +1,9 @@
+pub mod Files
+pub mod Commands
+pub mod Numbered
+pub mod Matched
+pub mod Reading
+pub mod Sent
+pub mod Written
+pub mod Causes
+pub mod Stops

@@ -1,0 +1,68 @@
+-- What the files of a run say, and which of them is refused.
+use Rattle.std.specs.Prelude.{List, [], ◌∷◌, ℕ, ◌≡◌, ◌⊎◌, ◌++◌, Option, Result, Ok, Err, codes}
+use Rattle.std.specs.Fmt.{decimal}
+use Rattle.gk_base.specs.Faults.{read_text}
+use Rattle.gk_base.specs.declared.limits.Limits.{Limits}
+use Rattle.gk_base.specs.declared.term.Triple.{Triple}
+use Rattle.gk_base.specs.declared.read_fault.ReadRefusal.{ReadRefusal}
+use Rattle.gk_io.specs.Files.{bytes_of}
+use Rattle.plain_files.specs.KeyText.{KeyText}
+use Rattle.plain_files.specs.PlainGraph.{plain_graph}
+use Rattle.plain_files.specs.PlainKeys.{plain_keys, key_text}
+use Rattle.plain_files.specs.declared.keys.KeyRefusal.{KeyRefusal}
+use Rattle.gkey_cmd.specs.Files.{file_text}
+use Rattle.gkey_cmd.specs.declared.file.File.{File}
+use Rattle.gkey_cmd.specs.declared.file.File.TheVariants.{Graph, Keys}
+
+-- files by name, as a shelf tells them
+abbrev pub NamedFiles : Type 0
+NamedFiles = List (List ℕ × List ℕ)
+
+-- what the bytes of a graph say: its triples, or the first refused line
+abbrev pub GraphSays : Limits → List ℕ → Result (List Triple) ReadRefusal → Type 0
+GraphSays limits bytes answer = plain_graph limits.bytes bytes ≡ answer
+
+-- what the bytes of a key file say: its key, if it has one, or the first refused line
+abbrev pub KeysSay : Limits → List ℕ → Result (Option KeyText) KeyRefusal → Type 0
+KeysSay limits bytes answer = plain_keys limits.key_bytes bytes ≡ answer
+
+-- why there is no answer: a line of the graph or of the key file is refused, or there are too many candidate pairs
+pub data Refusal : Type 0 where
+  InGraph : ReadRefusal → Refusal
+  InKeys : KeyRefusal → Refusal
+  MorePairsThan : ℕ → Refusal
+
+-- a refused line, as an error text names it
+abbrev pub line_text : File → ℕ → List ℕ → List ℕ
+line_text file line fault = file_text file ++ codes ":" ++ decimal line ++ codes ": " ++ fault ++ codes "\n"
+
+-- the error text of a refusal
+abbrev pub refused_text : Refusal → List ℕ
+refused_text (InGraph refusal) = line_text Graph refusal.line (read_text refusal.fault)
+refused_text (InKeys refusal) = line_text Keys refusal.line (key_text refusal.fault)
+refused_text (MorePairsThan limit) = codes "pairs: more than " ++ decimal limit ++ codes "\n"
+
+-- the file under this name is accepted
+abbrev pub IsAccepted : Limits → NamedFiles → File → List ℕ → Type 0
+IsAccepted limits files Graph name = (triples : List Triple) × GraphSays limits (bytes_of files name) (Ok triples)
+IsAccepted limits files Keys name = (key : Option KeyText) × KeysSay limits (bytes_of files name) (Ok key)
+
+-- it is refused so
+abbrev pub IsRefusedSo : Limits → NamedFiles → File → List ℕ → Refusal → Type 0
+IsRefusedSo limits files Graph name (InGraph refusal) = GraphSays limits (bytes_of files name) (Err refusal)
+IsRefusedSo limits files Graph name (InKeys refusal) = ⊥
+IsRefusedSo limits files Graph name (MorePairsThan limit) = ⊥
+IsRefusedSo limits files Keys name (InGraph refusal) = ⊥
+IsRefusedSo limits files Keys name (InKeys refusal) = KeysSay limits (bytes_of files name) (Err refusal)
+IsRefusedSo limits files Keys name (MorePairsThan limit) = ⊥
+
+-- each of these files is accepted
+abbrev pub AllAccepted : Limits → NamedFiles → List (File × List ℕ) → Type 0
+AllAccepted limits files [] = Unit {0}
+AllAccepted limits files (file ∷ others) = IsAccepted limits files file.0 file.1 × AllAccepted limits files others
+
+-- the first of these files that is not accepted is refused so
+abbrev pub FirstRefused : Limits → NamedFiles → List (File × List ℕ) → Refusal → Type 0
+FirstRefused limits files [] refusal = ⊥
+FirstRefused limits files (file ∷ others) refusal =
+    IsRefusedSo limits files file.0 file.1 refusal ⊎ (IsAccepted limits files file.0 file.1 × FirstRefused limits files others refusal)

@@ -1,0 +1,74 @@
+-- What a run writes: the relation of its words, its files and its limits to its status, its output and its error text.
+use Rattle.std.specs.Prelude.{List, [], ℕ, ◌≡◌, ◌⊎◌, ◌≤◌, ◌^◌, Option, Some, None, Ok, codes}
+use Rattle.gk_base.specs.declared.limits.Limits.{Limits}
+use Rattle.gk_base.specs.declared.term.Triple.{Triple}
+use Rattle.gk_io.specs.Files.{bytes_of}
+use Rattle.plain_files.specs.KeyText.{KeyText}
+use Rattle.gkey_cmd.specs.Commands.{Wanted, Matching, files_of}
+use Rattle.gkey_cmd.specs.Reading.{NamedFiles, GraphSays, KeysSay, Refusal, MorePairsThan, refused_text, AllAccepted, FirstRefused}
+use Rattle.gkey_cmd.specs.Matched.{IsReport, HasTooManyPairs}
+use Rattle.gkey_cmd.specs.declared.ending.Answer.{Answer}
+use Rattle.gkey_cmd.specs.declared.ending.Answer.TheVariants.{Given}
+
+-- the usage text
+abbrev pub usage : List ℕ
+usage = codes "usage:\n  gkey match GRAPH KEYS\n"
+
+-- the error texts of want of memory and of a failed write
+abbrev pub out_of_memory : List ℕ
+out_of_memory = codes "out of memory\n"
+
+abbrev pub write_failed : List ℕ
+write_failed = codes "output: write failed\n"
+
+-- the status of an answer
+abbrev pub status_of : Answer → ℕ
+status_of Given = 0
+
+-- a status that stands for an answer
+abbrev pub IsAnswer : ℕ → Type 0
+IsAnswer status = (status ≡ 0) ⊎ (status ≡ 1)
+
+-- each limit is at most that of the program
+pub record AreWithin (limits : Limits) : Type 0 where
+  pub bytes : limits.bytes ≤ 2 ^ 29
+  pub key_bytes : limits.key_bytes ≤ 2 ^ 20
+  pub triples : limits.triples ≤ 2 ^ 22
+  pub pairs : limits.pairs ≤ 2 ^ 26
+
+-- the accepted files of a command lead to more candidate pairs than the limit
+abbrev pub HasMorePairs : Limits → NamedFiles → Wanted → Type 0
+HasMorePairs limits files (Matching graph keys) =
+    (triples : List Triple) × (key : Option KeyText) × GraphSays limits (bytes_of files graph) (Ok triples)
+    × KeysSay limits (bytes_of files keys) (Ok key) × HasTooManyPairs triples key limits.pairs
+
+-- the answer of a command whose files are accepted and lead to no more pairs than the limit, and its output
+abbrev pub Answers : Limits → NamedFiles → Wanted → Answer → List ℕ → Type 0
+Answers limits files (Matching graph keys) Given output =
+    (triples : List Triple) × (key : Option KeyText) × GraphSays limits (bytes_of files graph) (Ok triples)
+    × KeysSay limits (bytes_of files keys) (Ok key) × IsReport triples key output
+
+-- The words ask for a command, and it is refused so: by the first of its files that is not accepted, or, where all are,
+-- by too many pairs.
+abbrev pub IsRefused : Option Wanted → NamedFiles → Limits → Refusal → Type 0
+IsRefused None files limits refusal = ⊥
+IsRefused (Some command) files limits refusal =
+    FirstRefused limits files (files_of command) refusal
+    ⊎ (AllAccepted limits files (files_of command) × HasMorePairs limits files command × (refusal ≡ MorePairsThan limits.pairs))
+
+-- the words ask for a command, all its files are accepted, and they lead to no more pairs than the limit
+abbrev pub AreAccepted : Option Wanted → NamedFiles → Limits → Type 0
+AreAccepted None files limits = ⊥
+AreAccepted (Some command) files limits = AllAccepted limits files (files_of command) × ¬ (HasMorePairs limits files command)
+
+-- the words ask for a command that is not refused, and it has this answer with this output
+abbrev pub IsAnswered : Option Wanted → NamedFiles → Limits → Answer → List ℕ → Type 0
+IsAnswered None files limits answer output = ⊥
+IsAnswered (Some command) files limits answer output = AreAccepted (Some command) files limits × Answers limits files command answer output
+
+-- What a run writes, one case for each way in which it may end: the words ask for no command, the command is refused, or
+-- it is answered.
+pub data Written (command : Option Wanted) (files : NamedFiles) (limits : Limits) (status : ℕ) (output error : List ℕ) : Type 0 where
+  AsNoCommand : command ≡ None → status ≡ 64 → output ≡ [] → error ≡ usage → Written command files limits status output error
+  AsRefused : (refusal : Refusal) → IsRefused command files limits refusal → status ≡ 2 → output ≡ [] → error ≡ refused_text refusal → Written command files limits status output error
+  AsAnswered : (answer : Answer) → IsAnswered command files limits answer output → status ≡ status_of answer → error ≡ [] → Written command files limits status output error

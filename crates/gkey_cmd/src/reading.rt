@@ -1,0 +1,89 @@
+//! What the files of a command say.
+
+ghost use Rattle.std.specs.Prelude.{◌≡◌, ◌≤◌, ◌^◌, length, IfOk, Ok, Err, IfSome, vec_items, Some};
+ghost use Rattle.gk_io.specs.Files.{bytes_of};
+ghost use Rattle.plain_files.specs.PlainKeyFacts.{IsPlainKey};
+ghost use Rattle.gkey_cmd.specs.Reading.{InGraph, InKeys, line_text, GraphSays, KeysSay};
+ghost use Rattle.gkey_cmd.specs.Written.{AreWithin};
+ghost use Rattle.gkey_cmd.specs.Causes.{ReadBy};
+
+use crate::ending::Ending;
+use crate::file::File;
+use crate::load::{LoadStop, load};
+use gk_base::{Limits, NoMemory, ReadStop, Text, Triple};
+use gk_io::Shelf;
+use plain_files::{KeyStop, PlainKey, read_plain_graph, read_plain_keys};
+use std::alloc::Global;
+
+/// The error text of a refused line.
+fn line_text(alloc: Global, file: File, line: u64, fault: &[u8]) -> Result<Vec<u8>, NoMemory>
+    ensures { IfOk result (λ text. text.items ≡ line_text file line fault.now) }
+{
+    let mut text = file.text().to_vec(alloc)?;
+    text.extend_from_slice(b":")?;
+    text.extend_from_slice(line.to_string(alloc)?.as_bytes())?;
+    text.extend_from_slice(b": ")?;
+    text.extend_from_slice(fault)?;
+    text.extend_from_slice(b"\n")?;
+    Ok(text)
+}
+
+/// The triples of the graph, or the ending of a run that can't have them.
+pub fn read_graph<S: Shelf>(
+    alloc: Global,
+    shelf: &mut S,
+    name: &Text,
+    limits: &Limits,
+) -> Result<Vec<Triple>, Ending>
+    requires { AreWithin limits.now }
+    ensures held { S.held shelf.new ≡ S.held shelf.old }
+    ensures cases { ReadBy S.Shelf shelf.old shelf.new File.Graph name.now limits.now
+        (λ files triples. GraphSays limits.now (bytes_of files name.now) (Ok (vec_items triples))) result }
+    ensures few { IfOk result (λ triples. length triples.items ≤ 2 ^ 29) }
+{
+    let bytes = match load(alloc, shelf, name, limits.bytes) {
+        Ok(bytes) => bytes,
+        Err(LoadStop::Failed) => return Err(Ending::Failed(File::Graph)),
+        Err(LoadStop::NoMemory) => return Err(Ending::NoMemory),
+    };
+    match read_plain_graph(alloc, &bytes, limits.bytes) {
+        Ok(triples) => Ok(triples),
+        Err(ReadStop::NoMemory) => Err(Ending::NoMemory),
+        Err(ReadStop::Refused(refusal)) => {
+            match line_text(alloc, File::Graph, refusal.line, refusal.fault.text()) {
+                Ok(text) => Err(Ending::Refused(text)),
+                Err(NoMemory) => Err(Ending::NoMemory),
+            }
+        }
+    }
+}
+
+/// The key of the key file, or the ending of a run that can't have it.
+pub fn read_keys<S: Shelf>(
+    alloc: Global,
+    shelf: &mut S,
+    name: &Text,
+    limits: &Limits,
+) -> Result<Option<PlainKey>, Ending>
+    requires { AreWithin limits.now }
+    ensures held { S.held shelf.new ≡ S.held shelf.old }
+    ensures cases { ReadBy S.Shelf shelf.old shelf.new File.Keys name.now limits.now
+        (λ files key. KeysSay limits.now (bytes_of files name.now) (Ok key)) result }
+    ensures plain { IfOk result (λ key. IfSome key IsPlainKey) }
+{
+    let bytes = match load(alloc, shelf, name, limits.key_bytes) {
+        Ok(bytes) => bytes,
+        Err(LoadStop::Failed) => return Err(Ending::Failed(File::Keys)),
+        Err(LoadStop::NoMemory) => return Err(Ending::NoMemory),
+    };
+    match read_plain_keys(alloc, &bytes, limits.key_bytes) {
+        Ok(key) => Ok(key),
+        Err(KeyStop::NoMemory) => Err(Ending::NoMemory),
+        Err(KeyStop::Refused(refusal)) => {
+            match line_text(alloc, File::Keys, refusal.line, refusal.fault.text()) {
+                Ok(text) => Err(Ending::Refused(text)),
+                Err(NoMemory) => Err(Ending::NoMemory),
+            }
+        }
+    }
+}

@@ -1,0 +1,304 @@
+//! Whole runs over files in memory.
+
+use crate::run_with;
+use gk_base::{Limits, Text};
+use gk_io::{MemShelf, MemSink};
+use std::sync::Wait;
+use std::test::Fail;
+use std::thread::Threads;
+
+const ALBUMS: &str = "\
+<urn:al1> <http://www.w3.org/1999/02/22-rdf-syntax-ns#type> <urn:Album> .
+<urn:al2> <http://www.w3.org/1999/02/22-rdf-syntax-ns#type> <urn:Album> .
+<urn:al1> <urn:name> \"Anthology 2\" .
+<urn:al2> <urn:name> \"Anthology 2\" .
+<urn:al1> <urn:year> \"1996\" .
+<urn:al2> <urn:year> \"1996\" .
+";
+
+const ALBUM_KEY: &str = "\
+key album_year <urn:Album>
+value $n
+value $y
+?x <urn:name> $n
+?x <urn:year> $y
+end
+";
+
+const TWO_TYPES: &str = "\
+<urn:f> <http://www.w3.org/1999/02/22-rdf-syntax-ns#type> <urn:D> .
+<urn:f> <http://www.w3.org/1999/02/22-rdf-syntax-ns#type> <urn:T> .
+<urn:g> <http://www.w3.org/1999/02/22-rdf-syntax-ns#type> <urn:T> .
+<urn:h> <http://www.w3.org/1999/02/22-rdf-syntax-ns#type> <urn:D> .
+<urn:f> <urn:p> \"1\" .
+<urn:f> <urn:p> \"1\" .
+<urn:g> <urn:p> \"1\" .
+<urn:h> <urn:p> \"1\" .
+<urn:f> <urn:q> \"1\" .
+<urn:g> <urn:q> \"1\" .
+";
+
+const ONE_VALUE: &str = "key k <urn:T>\nvalue $v\n?x <urn:p> $v\nend\n";
+
+const TWO_VALUES: &str = "key k <urn:T>\nvalue $v\nvalue $w\n?x <urn:p> $v\n?x <urn:q> $w\nend\n";
+
+const TYPE_AS_VALUE: &str = "\
+key k <urn:T>
+value $v
+?x <http://www.w3.org/1999/02/22-rdf-syntax-ns#type> $v
+end
+";
+
+const ORDERED: &str = "\
+<urn:b> <http://www.w3.org/1999/02/22-rdf-syntax-ns#type> <urn:T> .
+<urn:a> <http://www.w3.org/1999/02/22-rdf-syntax-ns#type> <urn:T> .
+<urn:a:1> <http://www.w3.org/1999/02/22-rdf-syntax-ns#type> <urn:T> .
+<urn:b> <urn:p> \"1\" .
+<urn:a> <urn:p> \"1\" .
+<urn:a:1> <urn:p> \"1\" .
+";
+
+/// A run over the files `g` and `k`, the calls that fail, and what it must leave.
+#[derive(Clone, Copy)]
+struct Case<'a> {
+    words: &'a [&'a str],
+    graph: &'a str,
+    keys: &'a str,
+    reads: &'a [u64],
+    writes: &'a [u64],
+    /// The most bytes that a call gives or takes.
+    most: usize,
+    limits: Limits,
+    status: u8,
+    out: &'a str,
+    err: &'a str,
+}
+
+/// Two albums with the same name and year.
+const GOOD: Case<'static> = Case {
+    words: &["match", "g", "k"],
+    graph: ALBUMS,
+    keys: ALBUM_KEY,
+    reads: &[],
+    writes: &[],
+    most: 65_536,
+    limits: Limits::STANDARD,
+    status: 0,
+    out: "<urn:al1> <urn:al2>\n",
+    err: "",
+};
+
+fn text<R: AllocGlobal>(rt: &R, text: &str) -> Result<Text, Fail> {
+    Ok(Text::from_bytes(rt.alloc(), text.as_bytes())?)
+}
+
+/// Whether the run leaves what it must.
+fn holds<R: AllocGlobal + Threads + Wait + Sync>(rt: &R, case: &Case<'_>) -> Result<bool, Fail> {
+    let limits = case.limits;
+    let standard = Limits::STANDARD;
+    let within = limits.bytes <= standard.bytes
+        && limits.key_bytes <= standard.key_bytes
+        && limits.triples <= standard.triples
+        && limits.pairs <= standard.pairs;
+    if case.most == 0 || !within {
+        return Ok(false);
+    }
+    let mut words = Vec::new(rt.alloc());
+    for word in case.words {
+        words.push(text(rt, word)?)?;
+    }
+    let mut files = Vec::new(rt.alloc());
+    files.push((text(rt, "g")?, case.graph.as_bytes().to_vec(rt.alloc())?))?;
+    files.push((text(rt, "k")?, case.keys.as_bytes().to_vec(rt.alloc())?))?;
+    let mut shelf = MemShelf::new(files, case.most, case.reads.to_vec(rt.alloc())?);
+    let mut out = MemSink::new(rt.alloc(), case.most, 100, case.writes.to_vec(rt.alloc())?)?;
+    let mut err = MemSink::new(rt.alloc(), 100, 100, Vec::new(rt.alloc()))?;
+    let status = run_with(
+        rt,
+        rt.alloc(),
+        &words,
+        &mut shelf,
+        &mut out,
+        &mut err,
+        &limits,
+    );
+    Ok(
+        status == case.status
+            && out.bytes() == case.out.as_bytes()
+            && err.bytes() == case.err.as_bytes(),
+    )
+}
+
+#[test]
+fn matches_print_their_classes(rt: HostRuntime) -> Result<(), Fail> {
+    let answered = [
+        (ALBUMS, ALBUM_KEY, "<urn:al1> <urn:al2>\n"),
+        ("", ALBUM_KEY, ""),
+        (ALBUMS, "", ""),
+        (ALBUMS, ONE_VALUE, ""),
+        (TWO_TYPES, ONE_VALUE, "<urn:f> <urn:g>\n"),
+        (TWO_TYPES, TWO_VALUES, ""),
+        (TWO_TYPES, TYPE_AS_VALUE, ""),
+        (ORDERED, ONE_VALUE, "<urn:a:1> <urn:a> <urn:b>\n"),
+    ];
+    for (row, (graph, keys, out)) in answered.into_iter().enumerate() {
+        let case = Case {
+            graph,
+            keys,
+            out,
+            ..GOOD
+        };
+        assert!(rt; holds(&rt, &case)?, "row {row}");
+    }
+    assert!(rt; holds(&rt, &Case { most: 1, ..GOOD })?);
+    Ok(())
+}
+
+#[test]
+fn refusals_name_their_first_line(rt: HostRuntime) -> Result<(), Fail> {
+    let relative = "<urn:a> <urn:p> \"1\" .\n<urn:b> <urn:p> \"1\" .\n<a> <urn:p> \"x\" .\n";
+    let refused = [
+        (relative, ALBUM_KEY, "graph:3: not built\n"),
+        (relative, "# none\n", "graph:3: not built\n"),
+        (ALBUMS, "# none\n", "keys:1: not built\n"),
+        (ALBUMS, "key k <urn:T>\nvalue $v\n", "keys:2: not built\n"),
+    ];
+    for (row, (graph, keys, err)) in refused.into_iter().enumerate() {
+        let case = Case {
+            graph,
+            keys,
+            status: 2,
+            out: "",
+            err,
+            ..GOOD
+        };
+        assert!(rt; holds(&rt, &case)?, "row {row}");
+    }
+    Ok(())
+}
+
+#[test]
+fn limits_refuse_what_is_beyond_them(rt: HostRuntime) -> Result<(), Fail> {
+    let standard = Limits::STANDARD;
+    let limited = [
+        (
+            Limits {
+                bytes: 10,
+                ..standard
+            },
+            "graph:1: file too long\n",
+        ),
+        (
+            Limits {
+                key_bytes: 10,
+                ..standard
+            },
+            "keys:1: file too long\n",
+        ),
+        (
+            Limits {
+                pairs: 0,
+                ..standard
+            },
+            "pairs: more than 0\n",
+        ),
+    ];
+    for (row, (limits, err)) in limited.into_iter().enumerate() {
+        let case = Case {
+            limits,
+            status: 2,
+            out: "",
+            err,
+            ..GOOD
+        };
+        assert!(rt; holds(&rt, &case)?, "row {row}");
+    }
+    let enough = Limits {
+        pairs: 1,
+        ..standard
+    };
+    assert!(rt;
+        holds(
+            &rt,
+            &Case {
+                limits: enough,
+                ..GOOD
+            }
+        )?
+    );
+    Ok(())
+}
+
+#[test]
+fn failures_name_their_file(rt: HostRuntime) -> Result<(), Fail> {
+    for call in 1u64..7 {
+        let err = if call <= 3 {
+            "graph: read failed\n"
+        } else {
+            "keys: read failed\n"
+        };
+        let case = Case {
+            reads: &[call],
+            status: 3,
+            out: "",
+            err,
+            ..GOOD
+        };
+        assert!(rt; holds(&rt, &case)?, "call {call}");
+    }
+    assert!(rt;
+        holds(
+            &rt,
+            &Case {
+                reads: &[7],
+                ..GOOD
+            }
+        )?
+    );
+    let missing = Case {
+        words: &["match", "none", "k"],
+        status: 3,
+        out: "",
+        err: "graph: read failed\n",
+        ..GOOD
+    };
+    assert!(rt; holds(&rt, &missing)?);
+    let cut = Case {
+        writes: &[2],
+        most: 5,
+        status: 4,
+        out: "<urn:",
+        err: "output: write failed\n",
+        ..GOOD
+    };
+    assert!(rt; holds(&rt, &cut)?);
+    Ok(())
+}
+
+#[test]
+fn other_words_ask_for_no_command(rt: HostRuntime) -> Result<(), Fail> {
+    let none = Case {
+        words: &[],
+        status: 64,
+        out: "",
+        err: "usage:\n  gkey match GRAPH KEYS\n",
+        ..GOOD
+    };
+    assert!(rt; holds(&rt, &none)?);
+    let few = Case {
+        words: &["match", "g"],
+        ..none
+    };
+    assert!(rt; holds(&rt, &few)?);
+    let many = Case {
+        words: &["match", "g", "k", "k"],
+        ..none
+    };
+    assert!(rt; holds(&rt, &many)?);
+    let other = Case {
+        words: &["matched", "g", "k"],
+        ..none
+    };
+    assert!(rt; holds(&rt, &other)?);
+    Ok(())
+}
