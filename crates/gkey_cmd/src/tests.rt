@@ -58,6 +58,19 @@ const ORDERED: &str = "\
 <urn:a:1> <urn:p> \"1\" .
 ";
 
+const TWO_CLASSES: &str = "\
+<urn:c> <http://www.w3.org/1999/02/22-rdf-syntax-ns#type> <urn:T> .
+<urn:b> <http://www.w3.org/1999/02/22-rdf-syntax-ns#type> <urn:T> .
+<urn:a> <http://www.w3.org/1999/02/22-rdf-syntax-ns#type> <urn:T> .
+<urn:a:1> <http://www.w3.org/1999/02/22-rdf-syntax-ns#type> <urn:T> .
+<urn:d> <http://www.w3.org/1999/02/22-rdf-syntax-ns#type> <urn:T> .
+<urn:c> <urn:p> \"1\" .
+<urn:b> <urn:p> \"1\" .
+<urn:a> <urn:p> \"2\" .
+<urn:a:1> <urn:p> \"2\" .
+<urn:d> <urn:p> \"3\" .
+";
+
 /// A run over the files `g` and `k`, the calls that fail, and what it must leave.
 #[derive(Clone, Copy)]
 struct Case<'a> {
@@ -70,7 +83,7 @@ struct Case<'a> {
     most: usize,
     limits: Limits,
     status: u8,
-    out: &'a str,
+    out: &'a [u8],
     err: &'a str,
 }
 
@@ -84,7 +97,7 @@ const GOOD: Case<'static> = Case {
     most: 65_536,
     limits: Limits::STANDARD,
     status: 0,
-    out: "<urn:al1> <urn:al2>\n",
+    out: b"<urn:al1> <urn:al2>\n",
     err: "",
 };
 
@@ -122,11 +135,7 @@ fn holds<R: AllocGlobal + Threads + Wait + Sync>(rt: &R, case: &Case<'_>) -> Res
         &mut err,
         &limits,
     );
-    Ok(
-        status == case.status
-            && out.bytes() == case.out.as_bytes()
-            && err.bytes() == case.err.as_bytes(),
-    )
+    Ok(status == case.status && out.bytes() == case.out && err.bytes() == case.err.as_bytes())
 }
 
 #[test]
@@ -140,12 +149,17 @@ fn matches_print_their_classes(rt: HostRuntime) -> Result<(), Fail> {
         (TWO_TYPES, TWO_VALUES, ""),
         (TWO_TYPES, TYPE_AS_VALUE, ""),
         (ORDERED, ONE_VALUE, "<urn:a:1> <urn:a> <urn:b>\n"),
+        (
+            TWO_CLASSES,
+            ONE_VALUE,
+            "<urn:a:1> <urn:a>\n<urn:b> <urn:c>\n",
+        ),
     ];
     for (row, (graph, keys, out)) in answered.into_iter().enumerate() {
         let case = Case {
             graph,
             keys,
-            out,
+            out: out.as_bytes(),
             ..GOOD
         };
         assert!(rt; holds(&rt, &case)?, "row {row}");
@@ -168,7 +182,7 @@ fn refusals_name_their_first_line(rt: HostRuntime) -> Result<(), Fail> {
             graph,
             keys,
             status: 2,
-            out: "",
+            out: b"",
             err,
             ..GOOD
         };
@@ -207,7 +221,7 @@ fn limits_refuse_what_is_beyond_them(rt: HostRuntime) -> Result<(), Fail> {
         let case = Case {
             limits,
             status: 2,
-            out: "",
+            out: b"",
             err,
             ..GOOD
         };
@@ -240,7 +254,7 @@ fn failures_name_their_file(rt: HostRuntime) -> Result<(), Fail> {
         let case = Case {
             reads: &[call],
             status: 3,
-            out: "",
+            out: b"",
             err,
             ..GOOD
         };
@@ -258,20 +272,39 @@ fn failures_name_their_file(rt: HostRuntime) -> Result<(), Fail> {
     let missing = Case {
         words: &["match", "none", "k"],
         status: 3,
-        out: "",
+        out: b"",
         err: "graph: read failed\n",
         ..GOOD
     };
     assert!(rt; holds(&rt, &missing)?);
-    let cut = Case {
-        writes: &[2],
-        most: 5,
-        status: 4,
-        out: "<urn:",
-        err: "output: write failed\n",
-        ..GOOD
-    };
-    assert!(rt; holds(&rt, &cut)?);
+    Ok(())
+}
+
+#[test]
+fn failed_writes_leave_a_front(rt: HostRuntime) -> Result<(), Fail> {
+    for most in [1usize, 5, 64] {
+        for call in 1u64..21 {
+            let taken = (call as usize - 1) * most;
+            if taken < GOOD.out.len() {
+                let case = Case {
+                    writes: &[call],
+                    most,
+                    status: 4,
+                    out: &GOOD.out[..taken],
+                    err: "output: write failed\n",
+                    ..GOOD
+                };
+                assert!(rt; holds(&rt, &case)?, "call {call} of {most} bytes");
+            } else {
+                let case = Case {
+                    writes: &[call],
+                    most,
+                    ..GOOD
+                };
+                assert!(rt; holds(&rt, &case)?, "call {call} of {most} bytes");
+            }
+        }
+    }
     Ok(())
 }
 
@@ -280,7 +313,7 @@ fn other_words_ask_for_no_command(rt: HostRuntime) -> Result<(), Fail> {
     let none = Case {
         words: &[],
         status: 64,
-        out: "",
+        out: b"",
         err: "usage:\n  gkey match GRAPH KEYS\n",
         ..GOOD
     };
