@@ -1,8 +1,8 @@
 //! Whole runs over files in memory.
 
-use crate::run_with;
+use crate::{run, run_with};
 use gk_base::{Limits, Text};
-use gk_io::{MemShelf, MemSink};
+use gk_io::{MemShelf, MemSink, SureShelf, SureSink};
 use std::sync::Wait;
 use std::test::Fail;
 use std::thread::Threads;
@@ -69,6 +69,12 @@ const TWO_CLASSES: &str = "\
 <urn:a> <urn:p> \"2\" .
 <urn:a:1> <urn:p> \"2\" .
 <urn:d> <urn:p> \"3\" .
+";
+
+const RELATIVE: &str = "\
+<urn:al1> <http://www.w3.org/1999/02/22-rdf-syntax-ns#type> <urn:Album> .
+<urn:al2> <http://www.w3.org/1999/02/22-rdf-syntax-ns#type> <urn:Album> .
+<a> <urn:p> \"x\" .
 ";
 
 /// A run over the files `g` and `k`, the calls that fail, and what it must leave.
@@ -170,10 +176,9 @@ fn matches_print_their_classes(rt: HostRuntime) -> Result<(), Fail> {
 
 #[test]
 fn refusals_name_their_first_line(rt: HostRuntime) -> Result<(), Fail> {
-    let relative = "<urn:a> <urn:p> \"1\" .\n<urn:b> <urn:p> \"1\" .\n<a> <urn:p> \"x\" .\n";
     let refused = [
-        (relative, ALBUM_KEY, "graph:3: not built\n"),
-        (relative, "# none\n", "graph:3: not built\n"),
+        (RELATIVE, ALBUM_KEY, "graph:3: not built\n"),
+        (RELATIVE, "# none\n", "graph:3: not built\n"),
         (ALBUMS, "# none\n", "keys:1: not built\n"),
         (ALBUMS, "key k <urn:T>\nvalue $v\n", "keys:2: not built\n"),
     ];
@@ -188,6 +193,15 @@ fn refusals_name_their_first_line(rt: HostRuntime) -> Result<(), Fail> {
         };
         assert!(rt; holds(&rt, &case)?, "row {row}");
     }
+    let no_keys = Case {
+        words: &["match", "g", "none"],
+        graph: RELATIVE,
+        status: 2,
+        out: b"",
+        err: "graph:3: not built\n",
+        ..GOOD
+    };
+    assert!(rt; holds(&rt, &no_keys)?);
     Ok(())
 }
 
@@ -333,5 +347,24 @@ fn other_words_ask_for_no_command(rt: HostRuntime) -> Result<(), Fail> {
         ..none
     };
     assert!(rt; holds(&rt, &other)?);
+    Ok(())
+}
+
+#[test]
+fn albums_match_over_devices_that_do_not_fail(rt: HostRuntime) -> Result<(), Fail> {
+    let mut words = Vec::new(rt.alloc());
+    for word in GOOD.words {
+        words.push(text(&rt, word)?)?;
+    }
+    let mut files = Vec::new(rt.alloc());
+    files.push((text(&rt, "g")?, ALBUMS.as_bytes().to_vec(rt.alloc())?))?;
+    files.push((text(&rt, "k")?, ALBUM_KEY.as_bytes().to_vec(rt.alloc())?))?;
+    let mut shelf = SureShelf::new(files);
+    let mut out = SureSink::new(rt.alloc(), 100)?;
+    let mut err = SureSink::new(rt.alloc(), 100)?;
+    let status = run(&rt, rt.alloc(), &words, &mut shelf, &mut out, &mut err);
+    assert_eq!(rt; status, 0);
+    assert_eq!(rt; out.bytes(), b"<urn:al1> <urn:al2>\n".as_slice());
+    assert!(rt; err.bytes().is_empty());
     Ok(())
 }
