@@ -1,6 +1,5 @@
 -- The rows of a graph are a set: their order and repeats are of no account.
-use Rattle.std.proofs.Common.{List, [], ◌∷◌, ℕ, Bool, Option, Some, None, All, Contains, IsTrue, IsSomeAnd, false, slice_get, slice_index, slice_index_or, get_or, take, ◌≡◌, ◌∙◌, sym, ap, subst}
-use Rattle.chase_laws.specs.declared.entry.Entry.{Entry}
+use Rattle.std.proofs.Common.{List, [], ◌∷◌, ℕ, Bool, Option, Some, None, IsSomeAnd, false, slice_index, slice_index_or, get_or, take, ◌≡◌, ◌∙◌, sym, ap, subst}
 use Rattle.chase_laws.specs.declared.pattern.Slot.{Slot}
 use Rattle.chase_laws.specs.declared.pattern.Slot.TheVariants.{Entity, Any as AnyOf, Value, Folded, Fixed}
 use Rattle.chase_laws.specs.declared.pattern.Edge.{Edge}
@@ -8,7 +7,7 @@ use Rattle.chase_laws.specs.Shape.{Shape}
 use Rattle.chase_laws.specs.Graph.{NumberedGraph, HasRow, HasType, HasRowsOf}
 use Rattle.chase_laws.specs.Valuation.{FitsSlot, IsValuation, AgreeAt, IsMatch}
 use Rattle.chase_laws.specs.Joined.{joined_by}
-use Rattle.chase_laws.specs.Chase.{IsStep, IsDerivation, AreSame}
+use Rattle.chase_laws.specs.Chase.{AreSame}
 use Rattle.chase_laws.specs.Candidate.{Shares, IsCandidate}
 
 module _ (G F : NumberedGraph) (h : HasRowsOf G F) where

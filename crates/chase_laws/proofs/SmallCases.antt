@@ -1,8 +1,6 @@
 -- Small cases of the definitions, worked out.
-use Rattle.std.proofs.Common.{List, [], ◌∷◌, ℕ, Bool, true, false, Option, Some, None, All, AllPairs, IsTrue, slice_get, slice_index, ◌≡◌, ◌≢◌, ◌<◌, ◌==◌, refl, arith}
-use Rattle.chase_laws.specs.declared.pattern.Slot.{Slot}
-use Rattle.chase_laws.specs.declared.pattern.Slot.TheVariants.{Entity, Any as AnyOf, Value, Folded, Fixed}
-use Rattle.chase_laws.specs.declared.pattern.Edge.{Edge}
+use Rattle.std.proofs.Common.{[], ◌∷◌, ℕ, Bool, true, false, None, IsTrue, ◌≡◌, ◌==◌, refl, arith}
+use Rattle.chase_laws.specs.declared.pattern.Slot.TheVariants.{Entity, Any as AnyOf, Value}
 use Rattle.chase_laws.specs.Graph.{NumberedGraph, HasType}
 use Rattle.chase_laws.specs.Shape.{Shape, is_pattern}
 use Rattle.chase_laws.specs.Valuation.{FitsSlot, IsValuation, AgreeAt}

@@ -1,5 +1,5 @@
 -- What a key identifies one way round, it does the other way round.
-use Rattle.std.proofs.Common.{List, ℕ, Bool, slice_index, ◌≡◌, ◌<◌, inl, inr, IsTrue, sym, subst}
+use Rattle.std.proofs.Common.{List, ℕ, Bool, slice_index, ◌<◌, inl, inr, IsTrue, sym, subst}
 use Rattle.std.proofs.lemmas.Bool.{cases_order}
 use Rattle.chase_laws.specs.declared.entry.Entry.{Entry}
 use Rattle.chase_laws.specs.declared.pattern.Slot.{Slot}

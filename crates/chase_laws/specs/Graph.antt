@@ -1,5 +1,5 @@
 -- A graph whose terms are numbered, and what a number may be in it.
-use Rattle.std.specs.Prelude.{List, [], ◌∷◌, ℕ, Bool, false, Option, IsTrue, IfSome, IsSomeAnd, Contains, All, length, slice_index, slice_index_or, ◌≡◌, ◌⊎◌, ◌<◌, ◌≤◌}
+use Rattle.std.specs.Prelude.{List, [], ◌∷◌, ℕ, Bool, false, Option, IsTrue, IsSomeAnd, Contains, All, length, slice_index, slice_index_or, ◌≡◌, ◌⊎◌, ◌<◌, ◌≤◌}
 
 -- Numbers stand for names, which are terms of an RDF graph or of its keys. A row is a triple of names: subject,
 -- predicate, object (RDF 1.1 Concepts, section 3.1). Each name has a flag that tells whether it is a literal, and

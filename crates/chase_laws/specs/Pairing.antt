@@ -1,6 +1,6 @@
 -- Pairing: which numbers can go together at a slot, as far as a given number of edges tells ("Keys for Graphs", section
 -- 4.2, to a fixed depth).
-use Rattle.std.specs.Prelude.{List, ℕ, zero, suc, Some, All, slice_get, ◌≡◌, ⊤}
+use Rattle.std.specs.Prelude.{ℕ, zero, suc, Some, All, slice_get, ◌≡◌, ⊤}
 use Rattle.chase_laws.specs.declared.pattern.Slot.{Slot}
 use Rattle.chase_laws.specs.declared.pattern.Slot.TheVariants.{Entity, Any, Value, Folded, Fixed}
 use Rattle.chase_laws.specs.Shape.{Shape}

@@ -2,11 +2,11 @@
 
 ghost use Rattle.std.specs.Prelude.{◌≡◌, ◌<◌, ◌≤◌, ◌↔◌, [], ◌∷◌, ◌++◌, length, slice_index, IsTrue};
 
-use std::alloc::AllocError;
 use std::marker::Model;
 
 /// A list of at most 16 numbers, which is copied as a whole: one name for each slot of a pattern. Contracts see it as
 /// the list.
+#[derive(Clone, Copy)]
 pub struct Places {
     items: [u32; 16],
     len: u8,
@@ -25,14 +25,6 @@ impl Model for Places {
     ghost inverse = { λ l. record { items = l ++ replicate (16 - length l) 0; len = length l } };
 
     ghost inverse_ok = { λ p h. padded_again p h };
-}
-
-impl Copy for Places {}
-
-impl Clone for Places {
-    fn clone(&self) -> Result<Self, AllocError> {
-        Ok(*self)
-    }
 }
 
 impl Places {

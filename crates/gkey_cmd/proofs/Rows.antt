@@ -100,11 +100,6 @@ length-terms_of (t ∷ ts) = let e = length-terms_of ts in omega arith
 pub few_names : (ts : List Triple) → length (names_of (terms_of ts)) ≤ 3 * length ts
 few_names ts = let a = (length-with_terms [] (terms_of ts)).1 in let b = length-terms_of ts in omega arith
 
--- a key has few terms
-pub few_key_terms : (key : Option KeyText) → IfSome key IsPlainKey → length (key_terms key) ≤ 33
-few_key_terms None h = omega arith
-few_key_terms (Some key) h = let e = length-map key.triples (λ t. Iri t.0) in let f = h.few_triples in omega arith
-
 -- while some are left the names are few
 pub still_few : (all left : List Triple) (names : List Term) (rows : List (List ℕ)) (done : List Triple) → HasNumbered all left names rows done → length all ≤ 2 ^ 29 → length names + 3 < 2 ^ 32
 still_few all left names rows done h few =

@@ -91,16 +91,16 @@ module _ (c0 : List Cell) (e0 : List Ends) (spare : ℕ) (lists : List (List ℕ
       Links c0 e0 c1 e1 l (ends_at e0 l).last (Some c) → Links c1 e1 c2 e2 l (Some c) None → spare ≡ spare' + 1 → length c2 ≡ length c0 →
       IsPool (cells_marked c2 c true) e2 spare' (set lists l (list_at lists l ++ c ∷ []))
   unfolding Path last
-  pushed c1 e1 c2 e2 spare' c_in none L1' L2 e n =
+  pushed c1 e1 c2 e2 spare' c_in none first_links' second_links e n =
       let xs : List ℕ = list_at lists l in
       let ring = pool.linked l l_in in
       let u : Option ℕ = last None xs in
-      let L1 : Links c0 e0 c1 e1 l u (Some c) = subst (λ v. Links c0 e0 c1 e1 l v (Some c)) ring.back L1' in
+      let first_links : Links c0 e0 c1 e1 l u (Some c) = subst (λ v. Links c0 e0 c1 e1 l v (Some c)) ring.back first_links' in
       let l_in' : l < length lists = omega (arith, pool.count) in
-      let count : length e2 ≡ length e0 = L2.lists ∙ L1.lists in
+      let count : length e2 ≡ length e0 = second_links.lists ∙ first_links.lists in
       let away : (m : ℕ) → m < length lists → times (list_at lists m) c ≡ 0 = λ m h. omega (arith, times-le-count_in lists m c h) in
       let not_c : (x : ℕ) → 0 < times xs x → x ≢ c = λ x h f. let k : 0 < times xs c = subst (λ y. 0 < times xs y) f h in absurd (omega (arith, away l l_in')) in
-      let same_flags : flags (cells_marked c2 c true) ≡ set (flags c0) c true = flags-marked c2 c true ∙ ap (λ bs. set bs c true) (L2.flags ∙ L1.flags) in
+      let same_flags : flags (cells_marked c2 c true) ≡ set (flags c0) c true = flags-marked c2 c true ∙ ap (λ bs. set bs c true) (second_links.flags ∙ first_links.flags) in
       let was_free : get_or (flags c0) c false ≡ false = is_free (get_or (flags c0) c false) (sym (pool.held c) ∙ none) in
       let c_flag : c < length (flags c0) = rw (length-map c0 (λ k. k.held)) c_in in
       record {
@@ -109,22 +109,22 @@ module _ (c0 : List Cell) (e0 : List Ends) (spare : ℕ) (lists : List (List ℕ
           | inl f ↦ subst (λ k. IsDoublyLinked (next_in (cells_marked c2 c true) e2 k) (prev_in (cells_marked c2 c true) e2 k) (list_at (set lists l (xs ++ c ∷ [])) k)) (sym f)
               (rw (get_or-set_same lists l (xs ++ c ∷ []) [] l_in')
               (join (next_in c0 e0 l) (prev_in c0 e0 l) (next_in (cells_marked c2 c true) e2 l) (prev_in (cells_marked c2 c true) e2 l) xs c [] ring.path (once c0 e0 spare lists pool l l_in)
-              (λ k. mark_next c2 e2 c true l None ∙ L2.next_other l None (inl (none_not_some c)) ∙ L1.next_other l None (inl k))
-              (λ x j k. mark_next c2 e2 c true l (Some x) ∙ L2.next_other l (Some x) (inl (λ g. not_c x j (same_some x c g))) ∙ L1.next_other l (Some x) (inl k))
-              (λ x j. mark_prev c2 e2 c true l (Some x) ∙ L2.prev_other l (Some x) (inl (some_not_none x)) ∙ L1.prev_other l (Some x) (inl (λ g. not_c x j (same_some x c g))))
-              (mark_next c2 e2 c true l u ∙ L2.next_other l u (inl (λ g. not_last xs c (away l l_in') (sym g))) ∙ L1.next)
-              (mark_prev c2 e2 c true l (Some c) ∙ L2.prev_other l (Some c) (inl (some_not_none c)) ∙ L1.prev)
+              (λ k. mark_next c2 e2 c true l None ∙ second_links.next_other l None (inl (none_not_some c)) ∙ first_links.next_other l None (inl k))
+              (λ x j k. mark_next c2 e2 c true l (Some x) ∙ second_links.next_other l (Some x) (inl (λ g. not_c x j (same_some x c g))) ∙ first_links.next_other l (Some x) (inl k))
+              (λ x j. mark_prev c2 e2 c true l (Some x) ∙ second_links.prev_other l (Some x) (inl (some_not_none x)) ∙ first_links.prev_other l (Some x) (inl (λ g. not_c x j (same_some x c g))))
+              (mark_next c2 e2 c true l u ∙ second_links.next_other l u (inl (λ g. not_last xs c (away l l_in') (sym g))) ∙ first_links.next)
+              (mark_prev c2 e2 c true l (Some c) ∙ second_links.prev_other l (Some c) (inl (some_not_none c)) ∙ first_links.prev)
               tt
-              (mark_next c2 e2 c true l (Some c) ∙ L2.next)
-              (mark_prev c2 e2 c true l None ∙ L2.prev)))
+              (mark_next c2 e2 c true l (Some c) ∙ second_links.next)
+              (mark_prev c2 e2 c true l None ∙ second_links.prev)))
           | inr f ↦
               let m_in : m < length e0 = rw (← count) h in
               let m_in' : m < length lists = omega (arith, pool.count) in
               rw (get_or-set_other lists l m (xs ++ c ∷ []) [] f)
               (linked_marked c2 e2 true m (list_at lists m)
-              (linked_elsewhere c1 e1 c2 e2 l (Some c) None m (list_at lists m) L2 f
+              (linked_elsewhere c1 e1 c2 e2 l (Some c) None m (list_at lists m) second_links f
               (λ x g. subst (λ y. times (list_at lists m) y ≡ 0) (same_some c x g) (away m m_in')) (λ x g. absurd (none_not_some x g))
-              (linked_elsewhere c0 e0 c1 e1 l u (Some c) m (list_at lists m) L1 f
+              (linked_elsewhere c0 e0 c1 e1 l u (Some c) m (list_at lists m) first_links f
               (λ x g. elsewhere c0 e0 spare lists pool l m x l_in m_in f (last_stands xs x g))
               (λ x g. subst (λ y. times (list_at lists m) y ≡ 0) (same_some c x g) (away m m_in'))
               (pool.linked m m_in))))
@@ -242,49 +242,49 @@ pub spliced : (c0 : List Cell) (e0 : List Ends) (spare : ℕ) (lists : List (Lis
     Links c0 e0 c1 e1 l (ends_at e0 l).last (Some y) → Links c1 e1 c2 e2 l (ends_at e0 o).last None →
     IsPool c2 (emptied e2 o) spare (set (set lists l (list_at lists l ++ y ∷ ys)) o [])
 unfolding Path last
-spliced c0 e0 spare lists pool l o l_in o_in apart y ys parts c1 e1 c2 e2 L1' L2' =
+spliced c0 e0 spare lists pool l o l_in o_in apart y ys parts c1 e1 c2 e2 first_links' second_links' =
     let xs : List ℕ = list_at lists l in
     let u : Option ℕ = last None xs in
     let v : Option ℕ = last (Some y) ys in
     let ring = pool.linked l l_in in
     let other0 = pool.linked o o_in in
     let other : IsDoublyLinked (next_in c0 e0 o) (prev_in c0 e0 o) (y ∷ ys) = rw parts at other0 in
-    let L1 : Links c0 e0 c1 e1 l u (Some y) = subst (λ w. Links c0 e0 c1 e1 l w (Some y)) ring.back L1' in
-    let L2 : Links c1 e1 c2 e2 l v None = subst (λ w. Links c1 e1 c2 e2 l w None) other.back L2' in
+    let first_links : Links c0 e0 c1 e1 l u (Some y) = subst (λ w. Links c0 e0 c1 e1 l w (Some y)) ring.back first_links' in
+    let second_links : Links c1 e1 c2 e2 l v None = subst (λ w. Links c1 e1 c2 e2 l w None) other.back second_links' in
     let l_in' : l < length lists = omega (arith, pool.count) in
     let o_in' : o < length lists = omega (arith, pool.count) in
     let mid : List (List ℕ) = set lists l (xs ++ y ∷ ys) in
     let o_in2 : o < length mid = rw (length-set lists l (xs ++ y ∷ ys)) o_in' in
     let mid_o : list_at mid o ≡ y ∷ ys = get_or-set_other lists l o (xs ++ y ∷ ys) [] (λ e. apart (sym e)) ∙ parts in
-    let count : length e2 ≡ length e0 = L2.lists ∙ L1.lists in
+    let count : length e2 ≡ length e0 = second_links.lists ∙ first_links.lists in
     let whole : (x : ℕ) → times (list_at lists o) x ≡ times (y ∷ ys) x = λ x. ap (λ vs. times vs x) parts in
     let once_o : Once (y ∷ ys) = subst Once parts (once c0 e0 spare lists pool o o_in) in
     let not_here : (x : ℕ) → 0 < times (y ∷ ys) x → times xs x ≡ 0 = λ x h. elsewhere c0 e0 spare lists pool o l x o_in l_in apart (omega (arith, whole x)) in
     let y_stands : 0 < times (y ∷ ys) y = omega (arith, times_here y ys) in
     let v_in = last_in y ys in
-    let size = cells_count c1 e1 c2 e2 l v None L2 ∙ cells_count c0 e0 c1 e1 l u (Some y) L1 in
+    let size = cells_count c1 e1 c2 e2 l v None second_links ∙ cells_count c0 e0 c1 e1 l u (Some y) first_links in
     let not_v : (x : ℕ) → 0 < times xs x → Some x ≢ v = λ x h e.
     let f : x ≡ v_in.0 = same_some x v_in.0 (e ∙ v_in.1) in
     let g : times xs x ≡ 0 = subst (λ z. times xs z ≡ 0) (sym f) (not_here v_in.0 v_in.2) in absurd (omega arith) in
     let not_u : (x : ℕ) → 0 < times (y ∷ ys) x → Some x ≢ u = λ x h. not_last xs x (not_here x h) in
     let N' : Option ℕ → Option ℕ = next_in c2 (emptied e2 o) l in
     let P' : Option ℕ → Option ℕ = prev_in c2 (emptied e2 o) l in
-    let nexts : (w : Option ℕ) → w ≢ u → w ≢ v → N' w ≡ next_in c0 e0 l w = λ w h k. emptied_next c2 e2 o l w apart ∙ L2.next_other l w (inl k) ∙ L1.next_other l w (inl h) in
-    let prevs : (w : Option ℕ) → w ≢ None → w ≢ Some y → P' w ≡ prev_in c0 e0 l w = λ w h k. emptied_prev c2 e2 o l w apart ∙ L2.prev_other l w (inl h) ∙ L1.prev_other l w (inl k) in
+    let nexts : (w : Option ℕ) → w ≢ u → w ≢ v → N' w ≡ next_in c0 e0 l w = λ w h k. emptied_next c2 e2 o l w apart ∙ second_links.next_other l w (inl k) ∙ first_links.next_other l w (inl h) in
+    let prevs : (w : Option ℕ) → w ≢ None → w ≢ Some y → P' w ≡ prev_in c0 e0 l w = λ w h k. emptied_prev c2 e2 o l w apart ∙ second_links.prev_other l w (inl h) ∙ first_links.prev_other l w (inl k) in
     let none_v : None ≢ v = λ e. let f : None ≡ Some v_in.0 = e ∙ v_in.1 in none_not_some v_in.0 f in
     let whole_ring : IsDoublyLinked N' P' (xs ++ y ∷ ys) =
     join (next_in c0 e0 l) (prev_in c0 e0 l) N' P' xs y ys ring.path (once c0 e0 spare lists pool l l_in)
     (λ h. nexts None h none_v)
     (λ x h k. nexts (Some x) k (not_v x h))
     (λ x h. prevs (Some x) (some_not_none x) (λ e. let f : x ≡ y = same_some x y e in let g : times xs x ≡ 0 = subst (λ z. times xs z ≡ 0) (sym f) (not_here y y_stands) in absurd (omega arith)))
-    (emptied_next c2 e2 o l u apart ∙ L2.next_other l u (inl (λ e. not_u v_in.0 v_in.2 (sym v_in.1 ∙ sym e))) ∙ L1.next)
-    (emptied_prev c2 e2 o l (Some y) apart ∙ L2.prev_other l (Some y) (inl (some_not_none y)) ∙ L1.prev)
+    (emptied_next c2 e2 o l u apart ∙ second_links.next_other l u (inl (λ e. not_u v_in.0 v_in.2 (sym v_in.1 ∙ sym e))) ∙ first_links.next)
+    (emptied_prev c2 e2 o l (Some y) apart ∙ second_links.prev_other l (Some y) (inl (some_not_none y)) ∙ first_links.prev)
     (path_kept (next_in c0 e0 o) (prev_in c0 e0 o) N' P' (Some y) ys other.path.2 once_o
     (λ h. nexts (Some y) (not_u y y_stands) h)
     (λ x h k. nexts (Some x) (not_u x (omega (arith, times_more y ys x))) k)
     (λ x h. prevs (Some x) (some_not_none x) (λ e. let f : x ≡ y = same_some x y e in let g : 0 < times ys y = subst (λ z. 0 < times ys z) f h in absurd (omega (arith, once_o y, times_here y ys)))))
-    (emptied_next c2 e2 o l v apart ∙ L2.next)
-    (emptied_prev c2 e2 o l None apart ∙ L2.prev) in
+    (emptied_next c2 e2 o l v apart ∙ second_links.next)
+    (emptied_prev c2 e2 o l None apart ∙ second_links.prev) in
     record {
       count = length-set mid o [] ∙ length-set lists l (xs ++ y ∷ ys) ∙ pool.count ∙ sym count ∙ sym (length-set e2 o no_ends);
       linked = λ m h. elim (cases_eq m o) [
@@ -298,20 +298,20 @@ spliced c0 e0 spare lists pool l o l_in o_in apart y ys parts c1 e1 c2 e2 L1' L2
               let m_in : m < length e0 = rw (← count, ← length-set e2 o no_ends) h in
               rw (get_or-set_other lists l m (xs ++ y ∷ ys) [] g)
               (linked_same (next_in c2 e2 m) (prev_in c2 e2 m) (next_in c2 (emptied e2 o) m) (prev_in c2 (emptied e2 o) m) (list_at lists m)
-              (linked_elsewhere c1 e1 c2 e2 l v None m (list_at lists m) L2 g
+              (linked_elsewhere c1 e1 c2 e2 l v None m (list_at lists m) second_links g
               (λ x k. elsewhere c0 e0 spare lists pool o m x o_in m_in f (let j : 0 < times (y ∷ ys) x = subst (λ z. 0 < times (y ∷ ys) z) (same_some v_in.0 x (sym v_in.1 ∙ k)) v_in.2 in omega (arith, whole x)))
               (λ x k. absurd (none_not_some x k))
-              (linked_elsewhere c0 e0 c1 e1 l u (Some y) m (list_at lists m) L1 g
+              (linked_elsewhere c0 e0 c1 e1 l u (Some y) m (list_at lists m) first_links g
               (λ x k. elsewhere c0 e0 spare lists pool l m x l_in m_in g (last_stands xs x k))
               (λ x k. elsewhere c0 e0 spare lists pool o m x o_in m_in f (let j : 0 < times (y ∷ ys) x = subst (λ z. 0 < times (y ∷ ys) z) (same_some y x k) y_stands in omega (arith, whole x)))
               (pool.linked m m_in)))
               (emptied_next c2 e2 o m None f) (emptied_prev c2 e2 o m None f) (λ x _. emptied_next c2 e2 o m (Some x) f) (λ x _. emptied_prev c2 e2 o m (Some x) f))
         ])
       ];
-      held = λ x. rw (L2.flags, L1.flags) (
+      held = λ x. rw (second_links.flags, first_links.flags) (
           let k : count_in (set mid o []) x ≡ count_in lists x = omega (arith, count_in-set mid o [] x o_in2, count_in-set lists l (xs ++ y ∷ ys) x l_in', times-append xs (y ∷ ys) x, ap (λ vs. times vs x) mid_o, times_nil x) in
           k ∙ pool.held x);
-      free = rw (L2.flags, L1.flags) pool.free;
+      free = rw (second_links.flags, first_links.flags) pool.free;
       all = rw size (
           let k : sum_by length (set mid o []) + length (list_at mid o) ≡ sum_by length mid + 0 = sum_by-set length mid o [] [] o_in2 in
           let j : sum_by length mid + length xs ≡ sum_by length lists + length (xs ++ y ∷ ys) = sum_by-set length lists l (xs ++ y ∷ ys) [] l_in' in

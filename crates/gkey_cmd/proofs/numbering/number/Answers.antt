@@ -2,14 +2,15 @@
 use Rattle.std.proofs.Common.{[], length, sym, ◌∙◌, ap, subst, arith}
 use Rattle.term_table.proofs.NumberingLemmas.{length-with_terms}
 use Rattle.plain_files.specs.Compile.{key_terms}
-use Rattle.gkey_cmd.proofs.Rows.{AreNamed, few_names, few_key_terms, all_named, rows_within, type_within, folding_of, numbered}
+use Rattle.plain_files.proofs.CompileLemmas.{few_terms}
+use Rattle.gkey_cmd.proofs.Rows.{AreNamed, few_names, all_named, rows_within, type_within, folding_of, numbered}
 use Rattle.gkey_cmd.proofs.numbering.number.Goals as goal
 
 pub compile-requires-clause-room : goal.compile-requires-clause-room
 compile-requires-clause-room c =
     let e = ap length c.in_ok-rows.ensures.names in
     let a = few_names c.args.triples.items in
-    let b = few_key_terms c.args.key.now c.requires.plain in
+    let b = few_terms c.args.key.now c.requires.plain in
     let f = c.requires.few in
     omega arith
 
