@@ -83,7 +83,7 @@ take_at_suc (x ∷ xs) zero e h = ap (λ (y : Entry). y ∷ []) (some_entry x e 
 take_at_suc (x ∷ xs) (suc i) e h = ap (λ ys. x ∷ ys) (take_at_suc xs i e h)
 
 -- a longer front joins as much
-Within-take : (H : List Entry) (i j : ℕ) (e : Entry) → slice_get H i ≡ Some e → i < j → Within (links (take i H ++ e ∷ [])) (links (take j H))
+pub Within-take : (H : List Entry) (i j : ℕ) (e : Entry) → slice_get H i ≡ Some e → i < j → Within (links (take i H ++ e ∷ [])) (links (take j H))
 Within-take H i j e at lt = subst (λ xs. Within (links (take i H ++ e ∷ [])) (links xs)) front (subst (λ ps. Within (links (take i H ++ e ∷ [])) ps) (sym (map-append (λ (f : Entry). (f.a, f.b)) (take i H ++ e ∷ []) rest)) (Within-append (links (take i H ++ e ∷ [])) (links rest)))
   where
     rest : List Entry

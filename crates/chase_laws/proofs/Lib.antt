@@ -9,3 +9,5 @@ pub mod Bound
 pub mod Turned
 pub mod SameRows
 pub mod SmallCases
+pub mod CoreEvents
+pub mod CoreEnd

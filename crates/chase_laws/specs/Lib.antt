@@ -9,3 +9,4 @@ pub mod Pairing
 pub mod Near
 pub mod View
 pub mod Report
+pub mod Core

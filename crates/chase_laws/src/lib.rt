@@ -7,13 +7,18 @@
 //! - `places`: short lists of numbers, one number for each slot
 //! - `entry`: one identification
 //! - `laws`: the laws
+//! - `pair_state`: where a pair stands while the chase runs
+//! - `core_law`: the law of the chase's core
 #![tactic(auto)]
 
+pub mod core_law;
 mod entry;
 pub mod laws;
+mod pair_state;
 mod pattern;
 mod places;
 
 pub use entry::Entry;
+pub use pair_state::PairState;
 pub use pattern::{Edge, Pattern, Slot};
 pub use places::Places;

@@ -1,0 +1,4 @@
+pub mod KeyLemmas
+pub mod WalkLemmas
+pub mod CompileLemmas
+pub mod PatternLemmas

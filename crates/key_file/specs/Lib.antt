@@ -1,0 +1,5 @@
+pub mod KeyShape
+pub mod Key
+pub mod Walks
+pub mod KeyFile
+pub mod Compile
