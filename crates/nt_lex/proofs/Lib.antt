@@ -3,6 +3,7 @@ pub mod WrittenLemmas
 pub mod RunningLemmas
 pub mod AnswerLemmas
 pub mod ScanLemmas
+pub mod LaneLemmas
 pub mod GrammarLemmas
 pub mod TagLemmas
 pub mod LabelLemmas

@@ -18,7 +18,7 @@ fn push_char(text: &mut Vec<u8>, c: char) -> Result<(), AllocError>
 fn copied(alloc: Global, bytes: &[u8]) -> Result<Vec<u8>, AllocError>
     ensures { IfOk result (λ v. v.items ≡ bytes.now) }
 {
-    bytes.to_vec(alloc)
+    Vec::from_slice(alloc, bytes)
 }
 
 /// What the characters from `from` on stand for, as long as they may stand in an IRI, and the place after them.

@@ -8,7 +8,7 @@
 //! - `tag`: language tags
 //! - `body`: the characters inside an IRI or a string
 //! - `escape`: escaped characters
-//! - `scan`: runs of bytes that stand for themselves
+//! - `scan`, `lanes`: runs of bytes that stand for themselves
 //! - `space`: tabs and spaces
 //! - `laws`: what holds of the grammar for every line
 #![tactic(auto)]
@@ -17,6 +17,7 @@ mod blank;
 mod body;
 mod escape;
 mod iri;
+mod lanes;
 mod laws;
 mod literal;
 mod object;

@@ -4,6 +4,9 @@ ghost use Rattle.std.specs.Prelude.{◌≡◌, ◌≤◌, length, slice_index};
 ghost use Rattle.nt_lex.specs.Chars.{is_iri_plain, is_string_plain};
 ghost use Rattle.nt_lex.specs.Scans.{IsRunAt};
 
+use crate::lanes::{LANES, iri_stops, string_stops};
+use std::simd::prelude::*;
+
 /// The byte at `at`, or 0 past the end.
 #[inline]
 pub(crate) fn byte_at(line: &[u8], at: usize) -> u8
@@ -35,6 +38,18 @@ fn is_string_plain(b: u8) -> bool
     !(b == b'"' || b == b'\\' || b == b'\n' || b == b'\r')
 }
 
+/// The same as `iri_run`, byte by byte.
+fn iri_run_slowly(line: &[u8], at: usize) -> usize
+    requires { at ≤ length line.now }
+    ensures { IsRunAt is_iri_plain line.now at result }
+{
+    let mut end = at;
+    while end < line.len() && is_iri_plain(line[end]) {
+        end += 1;
+    }
+    end
+}
+
 /// The first place from `at` on with a byte that does not stand for itself in an IRI, or the end.
 #[inline]
 pub(crate) fn iri_run(line: &[u8], at: usize) -> usize
@@ -42,7 +57,23 @@ pub(crate) fn iri_run(line: &[u8], at: usize) -> usize
     ensures { IsRunAt is_iri_plain line.now at result }
 {
     let mut end = at;
-    while end < line.len() && is_iri_plain(line[end]) {
+    while line.len() - end >= LANES {
+        let stops = iri_stops(u8x16::from_slice(&line[end..]));
+        if stops != 0 {
+            return end + stops.trailing_zeros() as usize;
+        }
+        end += LANES;
+    }
+    iri_run_slowly(line, end)
+}
+
+/// The same as `string_run`, byte by byte.
+fn string_run_slowly(line: &[u8], at: usize) -> usize
+    requires { at ≤ length line.now }
+    ensures { IsRunAt is_string_plain line.now at result }
+{
+    let mut end = at;
+    while end < line.len() && is_string_plain(line[end]) {
         end += 1;
     }
     end
@@ -55,8 +86,12 @@ pub(crate) fn string_run(line: &[u8], at: usize) -> usize
     ensures { IsRunAt is_string_plain line.now at result }
 {
     let mut end = at;
-    while end < line.len() && is_string_plain(line[end]) {
-        end += 1;
+    while line.len() - end >= LANES {
+        let stops = string_stops(u8x16::from_slice(&line[end..]));
+        if stops != 0 {
+            return end + stops.trailing_zeros() as usize;
+        }
+        end += LANES;
     }
-    end
+    string_run_slowly(line, end)
 }

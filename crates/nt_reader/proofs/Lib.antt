@@ -5,3 +5,4 @@ pub mod FileLemmas
 pub mod StateLemmas
 pub mod OneFile
 pub mod LinedLemmas
+pub mod TotalLemmas

@@ -135,10 +135,10 @@ stops_once most content r s x y = stops_of most content r s x y (order x.good y.
 good_stops : (most : ℕ) (content : List (List ℕ)) (all : List Triple) (r : ReadRefusal) → AreGood content all → length all ≤ most → StopsIn most content r → ⊥
 good_stops most content all r g few x = good_conflict most content x.good x.bad x.more all x.triples r.fault x.here g few x.before x.refused
 
-within_judged : (most : ℕ) (bytes : List ℕ) → length bytes ≤ most → judged most bytes ≡ lines bytes
+pub within_judged : (most : ℕ) (bytes : List ℕ) → length bytes ≤ most → judged most bytes ≡ lines bytes
 within_judged most bytes le = cond-true _ _ _ (le-leb _ _ le)
 
-beyond_judged : (most : ℕ) (bytes : List ℕ) → most < length bytes → judged most bytes ≡ (cut_of (take most bytes)).ended
+pub beyond_judged : (most : ℕ) (bytes : List ℕ) → most < length bytes → judged most bytes ≡ (cut_of (take most bytes)).ended
 beyond_judged most bytes lt = cond-false _ _ _ (lt-leb (length bytes) most lt)
 
 stops_long : (limits : Limits) (bytes : List ℕ) (r s : ReadRefusal) → StopsIn limits.triples (judged limits.bytes bytes) r → IsTooLong limits bytes s → ⊥

@@ -4,9 +4,13 @@ use Rattle.std.specs.Prelude.{◌≡◌, ℕ, Bool, true, false, not, ◌&&◌, 
 use Rattle.std.specs.List.{list_all}
 use Rattle.nt_lex.specs.Scans.{NextFails}
 
+-- a line feed or a carriage return
+abbrev pub is_line_end : ℕ → Bool
+is_line_end b = b == 0x0A || b == 0x0D
+
 -- a byte that ends no line
 abbrev pub is_line_byte : ℕ → Bool
-is_line_byte b = not (b == 0x0A || b == 0x0D)
+is_line_byte b = not (is_line_end b)
 
 -- a front of a text: the lines that have ended, what has come of the next one, and whether a carriage return came last
 pub record Cut : Type 0 where

@@ -1,6 +1,7 @@
 //! What holds of lines and files for every text. The functions do nothing: their contracts are the laws.
 
-ghost use Rattle.std.specs.Prelude.{◌≡◌, ℕ, List, Result};
+ghost use Rattle.std.specs.Prelude.{◌≡◌, ℕ, List, Option, Result};
+ghost use Rattle.gk_base.specs.declared.lex_fault.LexFault.{LexFault};
 ghost use Rattle.gk_base.specs.declared.limits.Limits.{Limits};
 ghost use Rattle.gk_base.specs.declared.term.Triple.{Triple};
 ghost use Rattle.gk_base.specs.declared.read_fault.ReadRefusal.{ReadRefusal};
@@ -8,6 +9,16 @@ ghost use Rattle.nt_lex.specs.Answers.{HasOne};
 ghost use Rattle.nt_reader.specs.Line.{LineSays};
 ghost use Rattle.nt_reader.specs.Lines.{cut_of, Lined};
 ghost use Rattle.nt_reader.specs.File.{FileSays};
+
+/// A line says something: nothing, a triple or a fault, whatever its bytes are.
+pub fn law_each_line_answers()
+    ensures { (line : List ℕ) → (answer : Result (Option Triple) LexFault) × LineSays line answer }
+{}
+
+/// A file says something under limits, whatever its bytes are.
+pub fn law_each_file_answers()
+    ensures { (limits : Limits) (bytes : List ℕ) → (answer : Result (List Triple) ReadRefusal) × FileSays limits bytes answer }
+{}
 
 /// A line says one thing.
 pub fn law_one_line_answer()

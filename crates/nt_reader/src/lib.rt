@@ -16,7 +16,8 @@ mod scan;
 mod state;
 
 pub use laws::{
-    law_lines_of_the_grammar, law_one_file_answer, law_one_line_answer, law_one_list_of_lines,
+    law_each_file_answers, law_each_line_answers, law_lines_of_the_grammar, law_one_file_answer,
+    law_one_line_answer, law_one_list_of_lines,
 };
 pub use line::read_line;
 pub use reader::Reader;

@@ -29,6 +29,8 @@ impl Reader {
         requires { limits.now.bytes + 1 < 2 ^ 64 }
         ensures limits { result.limits ≡ limits.now }
         ensures read { HasRead result [] }
+        // It begins to read, and has not failed.
+        ensures running { result.running ≡ true }
     {
         Reader {
             alloc,

@@ -1,11 +1,17 @@
 ghost use Rattle.std.specs.Prelude.{◌+◌, ◌<◌, ◌^◌};
 
 use crate::{Reader, read_line};
-use gk_base::{LexFault, LexStop, Limits, ReadFault, ReadRefusal, ReadStop, Term};
-use std::alloc::Global;
+use gk_base::{LexFault, LexStop, Limits, ReadFault, ReadRefusal, ReadStop, Term, Triple};
+use std::alloc::{AllocError, Global};
 
-/// What a line says: nothing, a triple with this object, or a fault.
-enum Says {
+mod characters;
+mod files;
+mod lines;
+mod literals;
+mod names;
+
+/// What a line says: nothing, a triple with this object, or a fault. Also one term of a triple.
+pub(crate) enum Says {
     Nothing,
     Iri(&'static [u8]),
     Blank(&'static [u8]),
@@ -15,318 +21,19 @@ enum Says {
     Fault(LexFault),
 }
 
-/// Lines made from the grammar, and what they say.
-static LINES: [(&[u8], Says); 85] = [
-    (b"", Says::Nothing),
-    (b" \t", Says::Nothing),
-    (b"# c", Says::Nothing),
-    (b" \t# <urn:a", Says::Nothing),
-    (b"<urn:a><urn:p>\"1\".", Says::Plain(b"1")),
-    (b"<urn:a> <urn:p> \"1\" . # c", Says::Plain(b"1")),
-    (b"\t<urn:a>\t<urn:p>\t\"1\"\t.\t#", Says::Plain(b"1")),
-    (b"_:a<urn:p>_:b.", Says::Blank(b"b")),
-    (
-        b"<urn:a> <urn:p> # c",
-        Says::Fault(LexFault::ObjectExpected),
-    ),
-    (b"<urn:a> <urn:p> .", Says::Fault(LexFault::ObjectExpected)),
-    (
-        b"\"x\" <urn:p> \"1\" .",
-        Says::Fault(LexFault::SubjectExpected),
-    ),
-    (b"x", Says::Fault(LexFault::SubjectExpected)),
-    (
-        b"<urn:a> _:b \"1\" .",
-        Says::Fault(LexFault::PredicateExpected),
-    ),
-    (
-        b"<urn:a> \"p\" \"1\" .",
-        Says::Fault(LexFault::PredicateExpected),
-    ),
-    (b"<urn:a> <urn:p> \"1\"", Says::Fault(LexFault::DotExpected)),
-    (
-        b"<urn:a> <urn:p> \"1\" x .",
-        Says::Fault(LexFault::DotExpected),
-    ),
-    (
-        b"<urn:a> <urn:p> \"1\" . x",
-        Says::Fault(LexFault::TextAfterTheDot),
-    ),
-    (
-        b"<urn:a> <urn:p> \"1\" . .",
-        Says::Fault(LexFault::TextAfterTheDot),
-    ),
-    (b"\xff", Says::Fault(LexFault::NotUtf8)),
-    (b"<a> \xff", Says::Fault(LexFault::NotUtf8)),
-    (b"# \xc3", Says::Fault(LexFault::NotUtf8)),
-    (b"<urn:a> <urn:p> \"\\t\" .", Says::Plain(b"\t")),
-    (b"<urn:a> <urn:p> \"\\b\" .", Says::Plain(b"\x08")),
-    (b"<urn:a> <urn:p> \"\\n\" .", Says::Plain(b"\n")),
-    (b"<urn:a> <urn:p> \"\\r\" .", Says::Plain(b"\r")),
-    (b"<urn:a> <urn:p> \"\\f\" .", Says::Plain(b"\x0c")),
-    (b"<urn:a> <urn:p> \"\\\"\" .", Says::Plain(b"\"")),
-    (b"<urn:a> <urn:p> \"\\'\" .", Says::Plain(b"'")),
-    (b"<urn:a> <urn:p> \"\\\\\" .", Says::Plain(b"\\")),
-    (
-        b"<urn:a> <urn:p> \"\\a\" .",
-        Says::Fault(LexFault::BadEscape),
-    ),
-    (b"<urn:a> <urn:p> \"a\\", Says::Fault(LexFault::BadEscape)),
-    (b"<urn:a> <urn:p> \"\\u0000\" .", Says::Plain(b"\x00")),
-    (b"<urn:a> <urn:p> \"\\U00000000\" .", Says::Plain(b"\x00")),
-    (
-        b"<urn:a> <urn:p> \"\\uD7FF\" .",
-        Says::Plain(b"\xed\x9f\xbf"),
-    ),
-    (
-        b"<urn:a> <urn:p> \"\\uE000\" .",
-        Says::Plain(b"\xee\x80\x80"),
-    ),
-    (
-        b"<urn:a> <urn:p> \"\\U0010FFFF\" .",
-        Says::Plain(b"\xf4\x8f\xbf\xbf"),
-    ),
-    (b"<urn:a> <urn:p> \"\\u00e9\" .", Says::Plain(b"\xc3\xa9")),
-    (
-        b"<urn:a> <urn:p> \"\\U0001F600\" .",
-        Says::Plain(b"\xf0\x9f\x98\x80"),
-    ),
-    (
-        b"<urn:a> <urn:p> \"\\uD800\" .",
-        Says::Fault(LexFault::BadEscape),
-    ),
-    (
-        b"<urn:a> <urn:p> \"\\uDFFF\" .",
-        Says::Fault(LexFault::BadEscape),
-    ),
-    (
-        b"<urn:a> <urn:p> \"\\U00110000\" .",
-        Says::Fault(LexFault::BadEscape),
-    ),
-    (
-        b"<urn:a> <urn:p> \"\\U0000D800\" .",
-        Says::Fault(LexFault::BadEscape),
-    ),
-    (
-        b"<urn:a> <urn:p> \"\\u00E\" .",
-        Says::Fault(LexFault::BadEscape),
-    ),
-    (
-        b"<urn:a> <urn:p> \"\\u00g0\" .",
-        Says::Fault(LexFault::BadEscape),
-    ),
-    (
-        b"<urn:a> <urn:p> \"\x00\x01\x1f\x7f\" .",
-        Says::Plain(b"\x00\x01\x1f\x7f"),
-    ),
-    (
-        b"<urn:a> <urn:p> \"a\tb\xc3\xa9\" .",
-        Says::Plain(b"a\tb\xc3\xa9"),
-    ),
-    (
-        b"<urn:a> <urn:p> \"a",
-        Says::Fault(LexFault::StringNotClosed),
-    ),
-    (
-        b"<urn:a> <urn:p> \"",
-        Says::Fault(LexFault::StringNotClosed),
-    ),
-    (
-        b"<urn:a> <urn:p> <urn:a b> .",
-        Says::Fault(LexFault::BadIri),
-    ),
-    (
-        b"<urn:a> <urn:p> <urn:a\"b> .",
-        Says::Fault(LexFault::BadIri),
-    ),
-    (b"<urn:a", Says::Fault(LexFault::BadIri)),
-    (b"<urn:a> <urn:p> <urn:{}> .", Says::Fault(LexFault::BadIri)),
-    (
-        b"<urn:a> <urn:p> <urn:\\u0020\\u003E> .",
-        Says::Iri(b"urn: >"),
-    ),
-    (
-        b"<urn:a> <urn:p> <urn:\\t> .",
-        Says::Fault(LexFault::BadEscape),
-    ),
-    (
-        b"<urn:a> <urn:p> <urn:\\uD800> .",
-        Says::Fault(LexFault::BadEscape),
-    ),
-    (b"<a> <urn:p> \"1\" .", Says::Fault(LexFault::RelativeIri)),
-    (b"<urn:a> <urn:p> <> .", Says::Fault(LexFault::RelativeIri)),
-    (
-        b"<urn:a> <urn:p> <1a:b> .",
-        Says::Fault(LexFault::RelativeIri),
-    ),
-    (b"<urn:a> <urn:p> <a+-.1:> .", Says::Iri(b"a+-.1:")),
-    (
-        b"<urn:a> <urn:p> <urn:\xc3\xa9> .",
-        Says::Iri(b"urn:\xc3\xa9"),
-    ),
-    (b"<urn:a> <urn:p> <\\u0061:b> .", Says::Iri(b"a:b")),
-    (b"<urn:a> <urn:p> _:a.b.", Says::Blank(b"a.b")),
-    (
-        b"<urn:a> <urn:p> _:a..",
-        Says::Fault(LexFault::TextAfterTheDot),
-    ),
-    (b"<urn:a> <urn:p> _:1-x .", Says::Blank(b"1-x")),
-    (b"<urn:a> <urn:p> _:_ .", Says::Blank(b"_")),
-    (b"<urn:a> <urn:p> _:: .", Says::Blank(b":")),
-    (
-        b"<urn:a> <urn:p> _:-a .",
-        Says::Fault(LexFault::BadBlankNodeLabel),
-    ),
-    (
-        b"<urn:a> <urn:p> _:.a .",
-        Says::Fault(LexFault::BadBlankNodeLabel),
-    ),
-    (
-        b"<urn:a> <urn:p> _: a .",
-        Says::Fault(LexFault::BadBlankNodeLabel),
-    ),
-    (
-        b"<urn:a> <urn:p> _a .",
-        Says::Fault(LexFault::BadBlankNodeLabel),
-    ),
-    (
-        b"<urn:a> <urn:p> _:a\xc2\xb7\xcc\x80 .",
-        Says::Blank(b"a\xc2\xb7\xcc\x80"),
-    ),
-    (
-        b"<urn:a> <urn:p> _:\xc2\xb7 .",
-        Says::Fault(LexFault::BadBlankNodeLabel),
-    ),
-    (b"<urn:a> <urn:p> \"x\"@EN-us .", Says::Lang(b"x", b"en-us")),
-    (
-        b"<urn:a> <urn:p> \"x\"@a-1-b2 .",
-        Says::Lang(b"x", b"a-1-b2"),
-    ),
-    (
-        b"<urn:a> <urn:p> \"x\"@1 .",
-        Says::Fault(LexFault::BadLanguageTag),
-    ),
-    (
-        b"<urn:a> <urn:p> \"x\"@a- .",
-        Says::Fault(LexFault::BadLanguageTag),
-    ),
-    (
-        b"<urn:a> <urn:p> \"x\"@ .",
-        Says::Fault(LexFault::BadLanguageTag),
-    ),
-    (b"<urn:a> <urn:p> \"x\" @en .", Says::Lang(b"x", b"en")),
-    (
-        b"<urn:a> <urn:p> \"x\"@en1 .",
-        Says::Fault(LexFault::DotExpected),
-    ),
-    (b"<urn:a> <urn:p> \"x\"@en.", Says::Lang(b"x", b"en")),
-    (
-        b"<urn:a> <urn:p> \"x\" ^^ <urn:t> .",
-        Says::Typed(b"x", b"urn:t"),
-    ),
-    (
-        b"<urn:a> <urn:p> \"x\"^^<http://www.w3.org/2001/XMLSchema#string> .",
-        Says::Plain(b"x"),
-    ),
-    (
-        b"<urn:a> <urn:p> \"x\"^<urn:t> .",
-        Says::Fault(LexFault::DotExpected),
-    ),
-    (
-        b"<urn:a> <urn:p> \"x\"^^ \"y\" .",
-        Says::Fault(LexFault::BadIri),
-    ),
-    (
-        b"<urn:a> <urn:p> \"x\"^^<t> .",
-        Says::Fault(LexFault::RelativeIri),
-    ),
-];
+/// The subject, the predicate and the object of a triple.
+pub(crate) type Row = (Says, Says, Says);
 
-/// The first and last character of each range of PN_CHARS_BASE.
-static INSIDE: [char; 28] = [
-    '\u{41}',
-    '\u{5A}',
-    '\u{61}',
-    '\u{7A}',
-    '\u{C0}',
-    '\u{D6}',
-    '\u{D8}',
-    '\u{F6}',
-    '\u{F8}',
-    '\u{2FF}',
-    '\u{370}',
-    '\u{37D}',
-    '\u{37F}',
-    '\u{1FFF}',
-    '\u{200C}',
-    '\u{200D}',
-    '\u{2070}',
-    '\u{218F}',
-    '\u{2C00}',
-    '\u{2FEF}',
-    '\u{3001}',
-    '\u{D7FF}',
-    '\u{F900}',
-    '\u{FDCF}',
-    '\u{FDF0}',
-    '\u{FFFD}',
-    '\u{10000}',
-    '\u{EFFFF}',
-];
-
-/// Their neighbours outside.
-static OUTSIDE: [char; 25] = [
-    '\u{40}',
-    '\u{5B}',
-    '\u{60}',
-    '\u{7B}',
-    '\u{BF}',
-    '\u{D7}',
-    '\u{F7}',
-    '\u{300}',
-    '\u{36F}',
-    '\u{37E}',
-    '\u{2000}',
-    '\u{200B}',
-    '\u{200E}',
-    '\u{206F}',
-    '\u{2190}',
-    '\u{2BFF}',
-    '\u{2FF0}',
-    '\u{3000}',
-    '\u{E000}',
-    '\u{F8FF}',
-    '\u{FDD0}',
-    '\u{FDEF}',
-    '\u{FFFE}',
-    '\u{FFFF}',
-    '\u{F0000}',
-];
-
-fn lines() -> &'static [(&'static [u8], Says)] {
-    &LINES
+/// What a reader is to answer: what its only line says, these triples, how many of them, or a refusal.
+#[derive(Clone, Copy)]
+enum Expected<'a> {
+    Line(&'a Says),
+    Rows(&'a [Row]),
+    Count(usize),
+    Refused(u64, ReadFault),
 }
 
-fn first_characters() -> &'static [char] {
-    &INSIDE
-}
-
-fn other_characters() -> &'static [char] {
-    &OUTSIDE
-}
-
-/// What a reader answers: how many triples, or why none.
-#[derive(Clone, Copy, PartialEq, Eq)]
-enum Answer {
-    Triples(usize),
-    Stop(ReadStop),
-}
-
-fn refused(line: u64, fault: ReadFault) -> Answer {
-    Answer::Stop(ReadStop::Refused(ReadRefusal { line, fault }))
-}
-
-fn is_object(term: &Term, says: &Says) -> bool {
+fn is_term(term: &Term, says: &Says) -> bool {
     match (term, says) {
         (Term::Iri(name), Says::Iri(text)) => name.bytes() == *text,
         (Term::Blank(label), Says::Blank(text)) => label.bytes() == *text,
@@ -341,34 +48,76 @@ fn is_object(term: &Term, says: &Says) -> bool {
     }
 }
 
+fn is_row(triple: &Triple, row: &Row) -> bool {
+    is_term(&triple.subject, &row.0)
+        && is_term(&triple.predicate, &row.1)
+        && is_term(&triple.object, &row.2)
+}
+
+fn are_rows(triples: &[Triple], rows: &[Row]) -> bool {
+    if triples.len() != rows.len() {
+        return false;
+    }
+    'triples: for (triple, row) in triples.iter().zip(rows) {
+        if !is_row(triple, row) {
+            return false;
+        }
+    }
+    true
+}
+
 fn line_says(alloc: Global, line: &[u8], says: &Says) -> bool {
     match (read_line(alloc, line), says) {
         (Ok(None), Says::Nothing) => true,
-        (Ok(Some(triple)), says) => is_object(&triple.object, says),
+        (Ok(Some(triple)), says) => is_term(&triple.object, says),
         (Err(LexStop::Fault(found)), Says::Fault(fault)) => found == *fault,
         _ => false,
     }
 }
 
-fn at_end(reader: Reader) -> Answer {
-    match reader.finish() {
-        Ok(triples) => Answer::Triples(triples.len()),
-        Err(stop) => Answer::Stop(stop),
+fn are_expected(triples: &[Triple], expected: &Expected<'_>) -> bool {
+    match expected {
+        Expected::Line(Says::Nothing) => triples.is_empty(),
+        Expected::Line(says) => triples.len() == 1 && is_term(&triples[0].object, says),
+        Expected::Rows(rows) => are_rows(triples, rows),
+        Expected::Count(count) => triples.len() == *count,
+        Expected::Refused(_, _) => false,
+    }
+}
+
+fn is_refused(stop: ReadStop, line: u64, fault: ReadFault) -> bool {
+    stop == ReadStop::Refused(ReadRefusal { line, fault })
+}
+
+fn is_expected(answer: Result<Vec<Triple>, ReadStop>, expected: &Expected<'_>) -> bool {
+    match (answer, expected) {
+        (Ok(triples), expected) => are_expected(&triples, expected),
+        (Err(stop), Expected::Line(Says::Fault(fault))) => {
+            is_refused(stop, 1, ReadFault::Lex(*fault))
+        }
+        (Err(stop), Expected::Refused(line, fault)) => is_refused(stop, *line, *fault),
+        _ => false,
     }
 }
 
 /// The answer to a file in three pieces. It is asked for at the end, whatever `feed` answered.
-fn in_pieces(alloc: Global, limits: &Limits, first: &[u8], second: &[u8], third: &[u8]) -> Answer
+fn in_pieces(
+    alloc: Global,
+    limits: &Limits,
+    first: &[u8],
+    second: &[u8],
+    third: &[u8],
+) -> Result<Vec<Triple>, ReadStop>
     requires { limits.now.bytes + 1 < 2 ^ 64 }
 {
     let mut reader = Reader::new(alloc, limits);
     let _ = reader.feed(first);
     let _ = reader.feed(second);
     let _ = reader.feed(third);
-    at_end(reader)
+    reader.finish()
 }
 
-fn byte_by_byte(alloc: Global, limits: &Limits, text: &[u8]) -> Answer
+fn byte_by_byte(alloc: Global, limits: &Limits, text: &[u8]) -> Result<Vec<Triple>, ReadStop>
     requires { limits.now.bytes + 1 < 2 ^ 64 }
 {
     let mut reader = Reader::new(alloc, limits);
@@ -376,11 +125,11 @@ fn byte_by_byte(alloc: Global, limits: &Limits, text: &[u8]) -> Answer
         let piece = [*b];
         let _ = reader.feed(&piece);
     }
-    at_end(reader)
+    reader.finish()
 }
 
 /// Whether this is the answer to the file whole, byte by byte and cut at each place.
-fn answers(alloc: Global, bytes: u64, triples: u64, text: &[u8], answer: Answer) -> bool
+fn answers(alloc: Global, bytes: u64, triples: u64, text: &[u8], expected: &Expected<'_>) -> bool
     requires { bytes < 1000000 }
 {
     let limits = Limits {
@@ -389,69 +138,179 @@ fn answers(alloc: Global, bytes: u64, triples: u64, text: &[u8], answer: Answer)
         ..Limits::STANDARD
     };
     'cuts: for cut in 0..text.len() {
-        if in_pieces(alloc, &limits, &text[..cut], &text[cut..], b"") != answer {
+        let answer = in_pieces(alloc, &limits, &text[..cut], &text[cut..], b"");
+        if !is_expected(answer, expected) {
             return false;
         }
     }
-    in_pieces(alloc, &limits, text, b"", b"") == answer
-        && byte_by_byte(alloc, &limits, text) == answer
+    is_expected(in_pieces(alloc, &limits, text, b"", b""), expected)
+        && is_expected(byte_by_byte(alloc, &limits, text), expected)
 }
 
-fn answer_of(says: &Says) -> Answer {
-    match says {
-        Says::Nothing => Answer::Triples(0),
-        Says::Fault(fault) => refused(1, ReadFault::Lex(*fault)),
-        _ => Answer::Triples(1),
+fn joined(alloc: Global, front: &[u8], back: &[u8]) -> Result<Vec<u8>, AllocError> {
+    let mut text = Vec::from_slice(alloc, front)?;
+    text.extend_from_slice(back)?;
+    Ok(text)
+}
+
+/// Whether the line says so, by itself and as a file.
+fn is_said(alloc: Global, line: &[u8], says: &Says) -> bool {
+    line_says(alloc, line, says) && answers(alloc, 1000, 9, line, &Expected::Line(says))
+}
+
+/// Whether the line of a subject, a predicate and this rest says so.
+fn is_said_after(alloc: Global, rest: &[u8], says: &Says) -> bool {
+    match joined(alloc, b"<urn:a> <urn:p> ", rest) {
+        Ok(line) => is_said(alloc, &line, says),
+        Err(_) => false,
     }
+}
+
+/// The first row of the table that is not as the reader has it, or the length of the table.
+fn first_wrong(alloc: Global, rows: &[(&'static [u8], Says)], after: bool) -> usize {
+    'rows: for (i, row) in rows.iter().enumerate() {
+        let right = if after {
+            is_said_after(alloc, row.0, &row.1)
+        } else {
+            is_said(alloc, row.0, &row.1)
+        };
+        if !right {
+            return i;
+        }
+    }
+    rows.len()
 }
 
 #[test]
 fn lines_say_what_the_grammar_says_in_any_cutting(rt: HostRuntime) {
-    'lines: for row in lines() {
-        assert!(rt; line_says(rt.alloc(), row.0, &row.1));
-        assert!(rt; answers(rt.alloc(), 1000, 9, row.0, answer_of(&row.1)));
-    }
+    let alloc = rt.alloc();
+    assert_eq!(rt;
+        first_wrong(alloc, lines::lines(), false),
+        lines::lines().len()
+    );
+    assert_eq!(rt;
+        first_wrong(alloc, lines::ends(), true),
+        lines::ends().len()
+    );
+    assert_eq!(rt;
+        first_wrong(alloc, literals::strings(), true),
+        literals::strings().len()
+    );
+    assert_eq!(rt;
+        first_wrong(alloc, literals::suffixes(), true),
+        literals::suffixes().len()
+    );
+    assert_eq!(rt;
+        first_wrong(alloc, names::iris(), true),
+        names::iris().len()
+    );
+    assert_eq!(rt;
+        first_wrong(alloc, names::labels(), true),
+        names::labels().len()
+    );
 }
 
-fn labelled(alloc: Global, c: char) -> Answer {
+/// Whether a label that begins with the character is read, or refused as a label.
+fn begins_label(alloc: Global, c: char, is_good: bool) -> bool {
     let mut buffer = [0u8; 4];
     let first = c.encode_utf8(&mut buffer);
-    in_pieces(
+    let answer = in_pieces(
         alloc,
         &Limits::STANDARD,
         b"_:",
         first.as_bytes(),
         b"<urn:p>\"1\".",
-    )
+    );
+    if is_good {
+        is_expected(answer, &Expected::Count(1))
+    } else {
+        is_expected(
+            answer,
+            &Expected::Line(&Says::Fault(LexFault::BadBlankNodeLabel)),
+        )
+    }
 }
 
 #[test]
 fn labels_begin_with_the_characters_of_the_grammar(rt: HostRuntime) {
-    'inside: for c in first_characters() {
-        assert!(rt; labelled(rt.alloc(), *c) == Answer::Triples(1));
+    'inside: for c in characters::inside() {
+        assert!(rt; begins_label(rt.alloc(), *c, true));
     }
-    'outside: for c in other_characters() {
-        assert!(rt;
-            labelled(rt.alloc(), *c) == refused(1, ReadFault::Lex(LexFault::BadBlankNodeLabel))
-        );
+    'outside: for c in characters::outside() {
+        assert!(rt; begins_label(rt.alloc(), *c, false));
+    }
+}
+
+/// Whether the file says these triples in any cutting.
+fn has_rows(alloc: Global, text: &[u8], rows: &[Row]) -> bool {
+    answers(alloc, 2000, 9, text, &Expected::Rows(rows))
+}
+
+/// Whether the file is refused at this line with this fault in any cutting, under these limits.
+fn is_refused_in(
+    alloc: Global,
+    bytes: u64,
+    triples: u64,
+    text: &[u8],
+    line: u64,
+    fault: ReadFault,
+) -> bool
+    requires { bytes < 1000000 }
+{
+    answers(alloc, bytes, triples, text, &Expected::Refused(line, fault))
+}
+
+#[test]
+fn files_say_the_triples_of_their_lines(rt: HostRuntime) {
+    let alloc = rt.alloc();
+    assert!(rt; has_rows(alloc, files::albums(), files::album_rows()));
+    assert!(rt; has_rows(alloc, files::spellings(), files::spelling_rows()));
+    assert!(rt; has_rows(alloc, files::books(), files::book_rows()));
+    assert!(rt; has_rows(alloc, files::ends(), files::end_rows()));
+}
+
+/// Whether the albums with this more are refused at this line with this fault of a line.
+fn albums_are_refused(alloc: Global, more: &[u8], line: u64, fault: LexFault) -> bool {
+    match joined(alloc, files::albums(), more) {
+        Ok(text) => is_refused_in(alloc, 2000, 9, &text, line, ReadFault::Lex(fault)),
+        Err(_) => false,
     }
 }
 
 #[test]
-fn files_are_cut_into_lines_and_kept_to_limits(rt: HostRuntime) {
+fn files_are_refused_at_their_first_faulty_line(rt: HostRuntime) {
+    let alloc = rt.alloc();
+    let ends = files::ends();
+    let dot = ReadFault::Lex(LexFault::DotExpected);
+    let relative = ReadFault::Lex(LexFault::RelativeIri);
+    let open = LexFault::StringNotClosed;
+    assert!(rt; ends.len() > 0);
+    assert!(rt; is_refused_in(alloc, 2000, 9, &ends[..ends.len() - 1], 5, dot));
+    assert!(rt; is_refused_in(alloc, 2000, 9, files::relative(), 3, relative));
+    assert!(rt; albums_are_refused(alloc, b"<urn:a> <urn:p> \"x", 7, open));
+    assert!(rt; albums_are_refused(alloc, b"\r\n<urn:a> <urn:p> \"x\ny\" .\n", 8, open));
+    assert!(rt; albums_are_refused(alloc, b"\r<urn:a> <urn:p> \"x\r\ny\" .", 8, open));
+}
+
+#[test]
+fn files_are_kept_to_limits(rt: HostRuntime) {
     let alloc = rt.alloc();
     let one = b"<urn:a> <urn:p> \"1\" .\r\n";
     let mixed = b"<urn:a><urn:p>_:b.\r\n\r#x\n<urn:a><urn:p><urn:c>.";
     let twice = b"<urn:a><urn:p>_:b.\n\n<urn:a><urn:p>_:b.\nx";
+    let long = ReadFault::TooLong;
+    let many = ReadFault::TooManyTriples;
     let subject = ReadFault::Lex(LexFault::SubjectExpected);
-    assert!(rt; answers(alloc, 22, 9, one, refused(1, ReadFault::TooLong)));
-    assert!(rt; answers(alloc, 23, 9, one, Answer::Triples(1)));
-    assert!(rt; answers(alloc, 100, 9, mixed, Answer::Triples(2)));
-    assert!(rt; answers(alloc, 100, 9, b"\r\n\n\rx", refused(4, subject)));
-    assert!(rt; answers(alloc, 100, 9, twice, refused(4, subject)));
-    assert!(rt; answers(alloc, 100, 1, twice, refused(3, ReadFault::TooManyTriples)));
-    assert!(rt; answers(alloc, 2, 9, b"\nab", refused(2, ReadFault::TooLong)));
-    assert!(rt; answers(alloc, 1, 9, b"\r\r", refused(2, ReadFault::TooLong)));
-    assert!(rt; answers(alloc, 2, 9, b"x\ny", refused(1, subject)));
-    assert!(rt; answers(alloc, 1, 9, b"x\ny", refused(1, ReadFault::TooLong)));
+    assert!(rt; is_refused_in(alloc, 22, 9, one, 1, long));
+    assert!(rt; answers(alloc, 23, 9, one, &Expected::Count(1)));
+    assert!(rt; answers(alloc, 100, 9, mixed, &Expected::Count(2)));
+    assert!(rt; is_refused_in(alloc, 100, 9, b"\r\n\n\rx", 4, subject));
+    assert!(rt; is_refused_in(alloc, 100, 9, twice, 4, subject));
+    assert!(rt; is_refused_in(alloc, 100, 1, twice, 3, many));
+    assert!(rt; is_refused_in(alloc, 2000, 5, files::albums(), 6, many));
+    assert!(rt; is_refused_in(alloc, 10, 9, files::albums(), 1, long));
+    assert!(rt; is_refused_in(alloc, 2, 9, b"\nab", 2, long));
+    assert!(rt; is_refused_in(alloc, 1, 9, b"\r\r", 2, long));
+    assert!(rt; is_refused_in(alloc, 2, 9, b"x\ny", 1, subject));
+    assert!(rt; is_refused_in(alloc, 1, 9, b"x\ny", 1, long));
 }

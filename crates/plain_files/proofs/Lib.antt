@@ -1,4 +1,0 @@
-pub mod PlainLemmas
-pub mod KeyLemmas
-pub mod FactLemmas
-pub mod CompileLemmas
