@@ -1,0 +1,117 @@
+-- The event that each answer stands for.
+use Rattle.std.proofs.Common.{List, [], ◌∷◌, ℕ, suc, Some, All, slice_get, slice_set, get_or, length, ◌≡◌, ◌<◌, ◌⊎◌, ◌↔◌, inl, inr, ◌==◌, refl, sym, ◌∙◌, ap, subst, arith, eqb-true, eq-eqb, ne_eqb, ap₂, zero}
+use Rattle.std.proofs.lemmas.Bool.{cases_Bool, cond-true, cond-false, both_ways}
+use Rattle.std.proofs.lemmas.Option.{slice_get_within, slice_get-get_or, get_or_from_slice_get, same_Some}
+use Rattle.chase_laws.specs.declared.pair_state.PairState.{PairState}
+use Rattle.chase_laws.specs.declared.pair_state.PairState.TheVariants as state
+use Rattle.chase_laws.specs.Joined.{joined_by, Joined}
+use Rattle.chase_laws.specs.Valuation.{Matches}
+use Rattle.chase_laws.specs.View.{label_in, same_by}
+use Rattle.chase_laws.specs.Core.{Task, IsTask, PairAt, EndsJoined, ListsNear}
+use Rattle.chase_laws.proofs.CoreEvents.{near_named}
+use Rattle.paired_search.specs.Held.{Ascends}
+use Rattle.class_book.specs.Classes.{Classes}
+use Rattle.chase_core.specs.declared.ticket.Ticket.{Ticket}
+use Rattle.chase_core.specs.declared.ticket.Outcome.{Outcome}
+use Rattle.chase_core.specs.declared.ticket.Outcome.TheVariants as outcome
+use Rattle.chase_core.specs.declared.ticket.Settled.{Settled}
+use Rattle.chase_core.specs.declared.ticket.Settled.TheVariants as settled
+use Rattle.chase_core.specs.Setup.{Prepared}
+use Rattle.chase_core.specs.Table.{Table}
+use Rattle.chase_core.specs.Running.{Running, state_of, state_in, running_with}
+use Rattle.chase_core.specs.Settling.{SettlesMissed, Settles, Notes}
+use Rattle.chase_core.proofs.Taken.{joined_apart}
+
+-- ---- the label of a name in a view whose names ascend
+
+label_later : (p : ℕ × ℕ) (view : List (ℕ × ℕ)) (n l : ℕ) → label_in (p ∷ view) n ≡ Some l → ((p.0 ≡ n) × (p.1 ≡ l)) ⊎ (label_in view n ≡ Some l)
+label_later p view n l h = elim (cases_Bool (p.0 == n)) [
+  | inl t ↦ inl (eqb-true p.0 n t, same_Some p.1 l (sym (cond-true (p.0 == n) (Some p.1) (label_in view n) t) ∙ h))
+  | inr f ↦ inr (sym (cond-false (p.0 == n) (Some p.1) (label_in view n) f) ∙ h)
+]
+
+-- where a view has the label of a name
+pub label_at : (view : List (ℕ × ℕ)) (n l : ℕ) → label_in view n ≡ Some l → (k : ℕ) × (slice_get view k ≡ Some (n, l))
+label_at [] n l h = absurd (cc)
+label_at (p ∷ view) n l h = elim (label_later p view n l h) [
+  | inl e ↦ (0, ap Some (let q : p ≡ (n, l) = pair_is p n l e.0 e.1 in q))
+  | inr k ↦ (let r = label_at view n l k in (suc r.0, r.1))
+]
+  where
+    pair_is : (p : ℕ × ℕ) (n l : ℕ) → p.0 ≡ n → p.1 ≡ l → p ≡ (n, l)
+    pair_is p n l e f = ap₂ (λ i j. (i, j)) e f
+
+-- what stands in a view whose names ascend is the label of its name
+pub label_of : (view : List (ℕ × ℕ)) (k n l : ℕ) → Ascends view → slice_get view k ≡ Some (n, l) → label_in view n ≡ Some l
+label_of [] k n l up h = absurd (cc)
+label_of (p ∷ view) zero n l up h =
+    let e : p ≡ (n, l) = same_Some p (n, l) h in
+    cond-true (p.0 == n) (Some p.1) (label_in view n) (eq-eqb p.0 n (ap (λ (q : ℕ × ℕ). q.0) e)) ∙ ap (λ (q : ℕ × ℕ). Some q.1) e
+label_of (p ∷ view) (suc k) n l up h =
+    let later : p.0 < n = subst (λ (q : ℕ × ℕ). p.0 < q.0) (get_or_from_slice_get view k (n, l) (n, l) h) (up 0 (suc k) (n, l) (omega arith) (let w = slice_get_within view k (n, l) h in omega arith)) in
+    cond-false (p.0 == n) (Some p.1) (label_in view n) (ne_eqb p.0 n (λ e. omega arith)) ∙ label_of view k n l (λ i j d lt h. up (suc i) (suc j) d (omega arith) (omega arith)) h
+
+module _ (T : Task) (ok : IsTask T) (labels : List ℕ) (count : length labels ≡ length T.graph.literal) (a b : ℕ) (view : List (ℕ × ℕ)) (up : Ascends view) (near : ListsNear T a b view) where
+  -- the names of a view of what is near have labels
+  pub view_named : All (λ p. p.0 < length labels) view
+  view_named k d h =
+      let n = (get_or view k d).0 in
+      let e : label_in view n ≡ Some (get_or view k d).1 = label_of view k n (get_or view k d).1 up (slice_get-get_or view k d h) in
+      elim ((near n).0 (rw e refl)) [
+        | inl i ↦ near_named T ok labels count a n i
+        | inr i ↦ near_named T ok labels count b n i
+      ]
+
+-- ---- the events
+
+module _ (S : Prepared) (book : Classes) (old new : Table) (t : Ticket) (view : List (ℕ × ℕ)) (up : Ascends view) (ends : PairAt S.task t.pair t.a t.b) (apart : ¬ (Joined book.journal t.a t.b))
+    (near : ListsNear S.task t.a t.b view) (none : ¬ (Matches S.task.graph S.task.patterns (same_by view) t.a t.b)) where
+  state_is : (ss : List PairState) → new.states ≡ ss → state_of book new ≡ record (state_of book old) { pairs = ss }
+  state_is ss e = ap (λ (xs : List PairState). state_of book (record { states = xs; ready = new.ready })) e
+
+  pub settles_missed : (answer : Settled) → SettlesMissed book old new view t.pair answer → Settles (running_with S book old) t view outcome.Missed answer (running_with S book new)
+  settles_missed settled.Missed h = (
+    (t.a, t.b, ends, apart, near, (λ n l at. let r = label_at view n l at in h.0 r.0 n l r.1), none, state_is (slice_set old.states t.pair state.Missed) h.1),
+    refl,
+    h.2,
+  )
+  settles_missed (settled.Reopened node seen now) h = (
+    ((t.a, t.b, ends, apart), (node, seen, label_of view h.0.place node seen up h.0.stands, (λ e. h.0.differs (e ∙ sym h.0.present))), state_is (slice_set old.states t.pair state.Ready) h.1),
+    h.0,
+    refl,
+    h.2,
+  )
+  settles_missed settled.Already h = absurd h
+  settles_missed (settled.Entered place) h = absurd h
+
+  -- nothing is noted
+  pub notes_missed : (answer : Settled) (room : ℕ) → SettlesMissed book old new view t.pair answer → Notes (running_with S book old) t.pair answer (running_with S book new) room []
+  notes_missed settled.Missed room h = refl
+  notes_missed (settled.Reopened node seen now) room h = refl
+  notes_missed settled.Already room h = absurd h
+  notes_missed (settled.Entered place) room h = absurd h
+
+-- ---- the first answer
+
+-- a pair is answered as joined already exactly where its ends are joined
+pub answers_already : (old new : Running) (t : Ticket) (view : List (ℕ × ℕ)) (found : Outcome) (answer : Settled) → PairAt old.setup.task t.pair t.a t.b → Settles old t view found answer new →
+    (answer ≡ settled.Already) ↔ Joined old.book.journal t.a t.b
+answers_already old new t view found settled.Already at s = ((λ _. joined_here old t at (joined_of found s)), (λ _. refl))
+  where
+    joined_here : (C : Running) (u : Ticket) → PairAt C.setup.task u.pair u.a u.b → EndsJoined C.setup.task (state_in C) u.pair → Joined C.book.journal u.a u.b
+    joined_here C u at h = elim (cases_Bool (joined_by C.book.journal u.a u.b)) [
+      | inl j ↦ j
+      | inr n ↦ absurd (joined_apart C.setup.task (state_in C) u.pair h (u.a, u.b, at, (λ j. both_ways (joined_by C.book.journal u.a u.b) n j)))
+    ]
+
+    joined_of : (f : Outcome) → Settles old t view f settled.Already new → EndsJoined old.setup.task (state_in old) t.pair
+    joined_of (outcome.Found f) s = s.0.0
+    joined_of outcome.Missed s = s.0.0
+answers_already old new t view (outcome.Found f) (settled.Entered place) at s = ((λ e. absurd (cc)), (λ j. absurd (s.0.1 j)))
+answers_already old new t view outcome.Missed (settled.Entered place) at s = absurd s
+answers_already old new t view (outcome.Found f) settled.Missed at s = absurd s
+answers_already old new t view outcome.Missed settled.Missed at s =
+    ((λ e. absurd (cc)), (λ j. absurd (joined_apart old.setup.task (state_in old) t.pair (t.a, t.b, at, j) (s.0.0, s.0.1, s.0.2, s.0.3))))
+answers_already old new t view (outcome.Found f) (settled.Reopened node seen now) at s = absurd s
+answers_already old new t view outcome.Missed (settled.Reopened node seen now) at s =
+    ((λ e. absurd (cc)), (λ j. absurd (joined_apart old.setup.task (state_in old) t.pair (t.a, t.b, at, j) s.0.0)))

@@ -1,0 +1,17 @@
+pub mod Members
+pub mod Tables
+pub mod Ends
+pub mod Widest
+pub mod Plans
+pub mod Showing
+pub mod Aside
+pub mod Relabelling
+pub mod Passed
+pub mod Taken
+pub mod Woke
+pub mod Entering
+pub mod Answering
+pub mod Events
+pub mod Recalling
+pub mod Draining
+pub mod Holdings

@@ -1,0 +1,12 @@
+pub mod Table
+pub mod Ends
+pub mod Noted
+pub mod Setup
+pub mod Kept
+pub mod Shown
+pub mod Running
+pub mod Taking
+pub mod Settling
+pub mod Gathering
+pub mod Passing
+pub mod Holding

@@ -1,0 +1,21 @@
+-- Where the pairs of a chase stand, and which of them wait for a search, in order (this project's own).
+use Rattle.std.specs.Prelude.{List, ℕ, AllPairs, Contains, Some, length, slice_get, ◌≡◌, ◌≢◌, ◌↔◌}
+use Rattle.list_pool.specs.Pool.{list_at}
+use Rattle.chase_laws.specs.declared.pair_state.PairState.{PairState}
+use Rattle.chase_laws.specs.declared.pair_state.PairState.TheVariants as state
+
+-- where each pair stands, and the Ready list, from whose front pairs are taken
+pub record Table : Type 0 where
+  pub states : List PairState
+  pub ready : List ℕ
+
+-- a list of each pair that is Ready, once, and no other
+pub record IsReadyList (states : List PairState) (ready : List ℕ) : Type 0 where
+  pub exact : (p : ℕ) → Contains ready p ↔ (slice_get states p ≡ Some state.Ready)
+  pub once : AllPairs (λ m n. m ≢ n) ready
+
+-- what a table keeps: a pool with one list, which is the Ready list, and with a cell for each pair
+pub record IsTable (states : List PairState) (lists : List (List ℕ)) (cells : ℕ) : Type 0 where
+  pub one_list : length lists ≡ 1
+  pub one_cell_each : cells ≡ length states
+  pub ready : IsReadyList states (list_at lists 0)

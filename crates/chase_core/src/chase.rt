@@ -1,0 +1,208 @@
+//! A chase that runs.
+
+ghost use Rattle.std.specs.Prelude.{◌≡◌, ◌≢◌, ◌<◌, ◌≤◌, ◌++◌, ◌↔◌, List, ℕ, IfOk, IfSome, IfNone, OnSome, MatchOption, Some, length, slice_get};
+ghost use Rattle.std.specs.Option.{ForSome};
+ghost use Rattle.std.specs.List.{range_with_len};
+ghost use Rattle.chase_laws.specs.declared.entry.Entry.{Entry};
+ghost use Rattle.chase_laws.specs.declared.pair_state.PairState.TheVariants as state;
+ghost use Rattle.chase_laws.specs.Joined.{Joined};
+ghost use Rattle.chase_laws.specs.Core.{PairAt, ListsNear, IsPresent, Event, Happens, Run, IsFinished, opening};
+ghost use Rattle.chase_laws.specs.Core.Event.{Recall};
+ghost use Rattle.chase_core.specs.declared.ticket.Settled.TheVariants.{Already};
+ghost use Rattle.chase_core.specs.Running.{state_in, IsRunning};
+ghost use Rattle.chase_core.specs.Taking.{TakesFirst, TakesHint, pair_of};
+ghost use Rattle.chase_core.specs.Holding.{IsHeld};
+ghost use Rattle.chase_core.specs.Settling.{IsRightOutcome, RiseInOrder, Settles, Notes};
+
+use crate::recall::recall_parts;
+use crate::settle::settle_parts;
+use crate::table::PairTable;
+use crate::take::take_parts;
+use crate::tried::outcome_of;
+use crate::{Matched, Outcome, Settled, Setup, Ticket, Woken};
+use chase_laws::PairState;
+use chase_laws::core_law::law_core;
+use class_book::Book;
+use gk_base::NoMemory;
+use paired_search::View;
+use std::alloc::Global;
+use std::marker::Model;
+
+/// A chase over a setup: which names are the same so far, and where each pair stands. Whoever searches takes a pair
+/// with a view, searches without the chase, and settles the pair; each call is one event. Contracts see the setup, the
+/// book of classes with the journal, and the pairs' states with the Ready list. Only `new` takes memory.
+#[derive(Drop)]
+pub struct Chase<'a> {
+    setup: &'a Setup,
+    book: Book,
+    table: PairTable,
+    /// Room in which `settle` gathers the pairs that an entry wakes.
+    aside: Vec<u32>,
+}
+
+impl<'a> Model for Chase<'a> {
+    ghost use Rattle.std.specs.Prelude.{vec_capacity};
+    ghost use Rattle.chase_core.specs.Running.{Running, running_with, IsKept};
+
+    ghost Value = { Running };
+
+    ghost view = { λ c. running_with c.setup.now c.book c.table };
+
+    ghost invariant = { λ c. IsKept (running_with c.setup.now c.book c.table) (vec_capacity c.aside) };
+}
+
+impl<'a> Chase<'a> {
+    /// A chase in which nothing is identified and every pair is Ready, in ascending order.
+    pub fn new(alloc: Global, setup: &'a Setup) -> Result<Chase<'a>, NoMemory>
+        ensures setup { IfOk result (λ c. c.setup ≡ setup.now) }
+        ensures opening { IfOk result (λ c. state_in c ≡ opening setup.now.task) }
+        ensures ready { IfOk result (λ c. c.table.ready ≡ range_with_len 0 (length setup.now.task.pairs)) }
+    {
+        law_core();
+        setup.prepared();
+        let names = setup.graph().names();
+        let count = setup.pairs().len() as u32;
+        let room = count.min(names.saturating_sub(1));
+        let book = Book::new(alloc, names, room)?;
+        let table = PairTable::new(alloc, count)?;
+        let aside = Vec::with_capacity(alloc, count as usize)?;
+        Ok(Chase {
+            setup,
+            book,
+            table,
+            aside,
+        })
+    }
+
+    /// What it works on.
+    pub fn setup(&self) -> &'a Setup
+        ensures { result.now ≡ self.now.setup }
+    {
+        self.setup
+    }
+
+    /// Where a pair stands.
+    pub fn state(&self, pair: u32) -> PairState
+        requires { pair < length self.now.setup.task.pairs }
+        ensures state { slice_get self.now.table.states pair ≡ Some result }
+        ensures running { IsRunning self.now }
+    {
+        self.table.state(pair)
+    }
+
+    /// Which names are the same so far, and the identifications in order.
+    pub fn book(&self) -> &Book
+        ensures book { result.now ≡ self.now.book }
+        ensures running { IsRunning self.now }
+    {
+        self.table.listed();
+        &self.book
+    }
+
+    /// Hands a pair out to be searched: the hinted one, or without a hint the first of the Ready list. A Ready pair whose
+    /// ends are joined already becomes Joined and is passed over. The view gets the present labels of what is near to
+    /// the pair's ends; it has to have room for the setup's widest view, and stays as it was where no pair is handed out.
+    pub fn take(&mut self, hint: Option<u32>, view: &mut View) -> Option<Ticket>
+        requires hint { ForSome hint (λ p. p < length self.old.setup.task.pairs) }
+        requires room { self.old.setup.widest ≤ view.old.room }
+        ensures takes { MatchOption hint (TakesFirst self.old self.new (pair_of result)) (λ p. TakesHint self.old self.new p (pair_of result)) }
+        ensures ends { IfSome result (λ t. PairAt self.old.setup.task t.pair t.a t.b) }
+        ensures near { IfSome result (λ t. ListsNear self.old.setup.task t.a t.b view.new.pairs) }
+        ensures present { OnSome result (IsPresent (state_in self.new) view.new.pairs) }
+        ensures held { IfSome result (λ t. IsHeld self.old.setup.task self.new.book.journal t view.new.pairs) }
+        ensures none { IfNone result (view.new ≡ view.old) }
+        ensures room { view.new.room ≡ view.old.room }
+        ensures setup { self.new.setup ≡ self.old.setup }
+        ensures book { self.new.book ≡ self.old.book }
+    {
+        law_core();
+        take_parts(self.setup, &self.book, &mut self.table, hint, view)
+    }
+
+    /// Settles a pair by what a search with its view came to. What was found has to be a step from the present journal,
+    /// and is never refused; that nothing was found is kept only where no label of the view has changed since.
+    pub fn settle(
+        &mut self,
+        ticket: Ticket,
+        view: &View,
+        outcome: Outcome,
+        woken: &mut Woken,
+    ) -> Settled
+        requires ends { PairAt self.old.setup.task ticket.pair ticket.a ticket.b }
+        requires view { ListsNear self.old.setup.task ticket.a ticket.b view.now.pairs }
+        requires outcome { IsRightOutcome self.old.setup.task (state_in self.old) ticket view.now.pairs outcome }
+        ensures settles { Settles self.old ticket view.now.pairs outcome result self.new }
+        ensures already { (result ≡ Already) ↔ Joined self.old.book.journal ticket.a ticket.b }
+        ensures woken { Notes self.old ticket.pair result self.new woken.old.room woken.new.list }
+        ensures woken_room { woken.new.room ≡ woken.old.room }
+        ensures setup { self.new.setup ≡ self.old.setup }
+        ensures grows { (more : List Entry) × (self.new.book.journal ≡ self.old.book.journal ++ more) }
+    {
+        law_core();
+        settle_parts(
+            self.setup,
+            &mut self.book,
+            &mut self.table,
+            &mut self.aside,
+            ticket,
+            view,
+            outcome,
+            woken,
+        )
+    }
+
+    /// Gives all pairs back that are handed out: each Flying pair becomes Ready, in ascending order at the end of the
+    /// list.
+    pub fn recall(&mut self)
+        ensures event { Happens self.old.setup.task (state_in self.old) Recall (state_in self.new) }
+        ensures rise { (list : List ℕ) × RiseInOrder state.Flying self.old.table.states self.old.table.ready self.new.table list }
+        ensures landed { (p : ℕ) → slice_get self.new.table.states p ≢ Some state.Flying }
+        ensures setup { self.new.setup ≡ self.old.setup }
+        ensures book { self.new.book ≡ self.old.book }
+    {
+        law_core();
+        recall_parts(self.setup, &mut self.table);
+    }
+
+    /// Searches and settles pairs until no pair is Ready. No pair may be Flying, and the view has to have room for the
+    /// setup's widest view. Afterwards every pair is Missed or Joined, and the journal begins with what it was.
+    pub fn drain(&mut self, view: &mut View, woken: &mut Woken)
+        requires landed { (p : ℕ) → slice_get self.old.table.states p ≢ Some state.Flying }
+        requires room { self.old.setup.widest ≤ view.old.room }
+        ensures finished { IsFinished (state_in self.new) }
+        ensures run { (events : List Event) × Run self.old.setup.task (state_in self.old) events (state_in self.new) }
+        ensures grows { (more : List Entry) × (self.new.book.journal ≡ self.old.book.journal ++ more) }
+        ensures setup { self.new.setup ≡ self.old.setup }
+        ensures room { view.new.room ≡ view.old.room }
+        ensures woken_room { woken.new.room ≡ woken.old.room }
+    {
+        law_core();
+        self.holds();
+        while let Some(ticket) = self.take(None, view) {
+            let outcome = outcome_of(self.setup, &ticket, view);
+            self.settle(ticket, view, outcome, woken);
+            self.holds();
+        }
+        self.holds();
+    }
+
+    /// What holds of every chase.
+    fn holds(&self)
+        ensures running { IsRunning self.now }
+    {
+        self.table.listed();
+        let _ = &self.book;
+    }
+
+    /// The labels and the journal. It takes no memory.
+    pub fn finish(self) -> Matched
+        ensures labels { result.labels.items ≡ self.entry.book.labels }
+        ensures journal { result.journal.items ≡ self.entry.book.journal }
+        ensures running { IsRunning self.entry }
+    {
+        let Chase { book, table, .. } = self;
+        table.listed();
+        let (labels, journal) = book.into_parts();
+        Matched { labels, journal }
+    }
+}

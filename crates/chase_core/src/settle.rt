@@ -1,0 +1,150 @@
+//! What becomes of a pair that was searched.
+
+ghost use Rattle.std.specs.Prelude.{◌≡◌, ◌<◌, ◌≤◌, [], List, ℕ, IfSome, IfNone, Some, length, slice_get, slice_index, take, vec_capacity};
+ghost use Rattle.chase_laws.specs.declared.pair_state.PairState.TheVariants as state;
+ghost use Rattle.chase_laws.specs.Joined.{Joined};
+ghost use Rattle.chase_laws.specs.Chase.{IsStep};
+ghost use Rattle.chase_laws.specs.Core.{IsSound, name_count, PairAt, ListsNear, Happens};
+ghost use Rattle.chase_laws.specs.Core.Event.{Enter};
+ghost use Rattle.paired_search.specs.Held.{Ascends};
+ghost use Rattle.list_pool.specs.Pool.{without};
+ghost use Rattle.chase_core.specs.Running.{state_of, running_with, journal_room};
+ghost use Rattle.chase_core.specs.Settling.{IsRightOutcome, IsFirstOvertaken, RiseInOrder, Settles, SettlesMissed, Notes};
+
+use crate::gather::gather_tail;
+use crate::relabel::enter_entry;
+use crate::table::PairTable;
+use crate::wake::wake_each;
+use crate::{Outcome, Settled, Setup, Ticket, Woken};
+use chase_laws::core_law::law_core;
+use chase_laws::{Entry, PairState};
+use class_book::Book;
+use paired_search::View;
+
+/// The first name of a pair's view whose label is not the present one, with the label in the view and the present one.
+fn overtaken(setup: &Setup, book: &Book, ticket: Ticket, view: &View) -> Option<(u32, u32, u32)>
+    requires labels { length book.now.labels ≡ name_count setup.now.task }
+    requires view { ListsNear setup.now.task ticket.a ticket.b view.now.pairs }
+    ensures found { IfSome result (λ r. IsFirstOvertaken book.now.labels view.now.pairs r.0 r.1 r.2) }
+    ensures none { IfNone result ((k n l : ℕ) → slice_get view.now.pairs k ≡ Some (n, l) → l ≡ slice_index book.now.labels n) }
+    ensures ascends { Ascends view.now.pairs }
+{
+    setup.prepared();
+    let _ = ticket;
+    for place in 0..view.len() {
+        let (node, seen) = view.at(place);
+        let now = book.label(node);
+        if seen != now {
+            return Some((node, seen, now));
+        }
+    }
+    None
+}
+
+/// Enters what was found for a pair whose ends are not joined, and makes the Missed pairs Ready that look at a name with
+/// another label. It answers the place of the identification in the journal.
+pub fn enter_found(
+    setup: &Setup,
+    book: &mut Book,
+    table: &mut PairTable,
+    aside: &mut Vec<u32>,
+    pair: u32,
+    entry: Entry,
+    woken: &mut Woken,
+) -> u32
+    requires sound { IsSound setup.now.task (state_of book.old table.old) }
+    requires ends { PairAt setup.now.task pair entry.a entry.b }
+    requires apart { ¬ (Joined book.old.journal entry.a entry.b) }
+    requires step { IsStep setup.now.task.graph setup.now.task.patterns book.old.journal entry }
+    requires room { book.old.room ≡ journal_room setup.now.task }
+    requires aside { length setup.now.task.pairs ≤ vec_capacity aside.old }
+    requires empty { woken.old.list ≡ [] }
+    ensures place { result ≡ length book.old.journal }
+    ensures event { Happens setup.now.task (state_of book.old table.old) (Enter pair entry) (state_of book.new table.new) }
+    ensures woken { (list : List ℕ) × RiseInOrder state.Missed table.old.states (without table.old.ready pair) table.new list
+        × (woken.new.list ≡ take woken.old.room list) }
+    ensures room { book.new.room ≡ book.old.room }
+    ensures aside { vec_capacity aside.new ≡ vec_capacity aside.old }
+    ensures woken_room { woken.new.room ≡ woken.old.room }
+{
+    law_core();
+    setup.prepared();
+    table.mark(pair, PairState::Joined);
+    let entered = enter_entry(book, entry);
+    aside.clear();
+    gather_tail(setup, book, table, entered.start, entered.count, aside);
+    aside.sort_unstable();
+    wake_each(table, aside, woken);
+    entered.place
+}
+
+/// Settles a pair that was searched and not found.
+fn settle_missed(
+    setup: &Setup,
+    book: &Book,
+    table: &mut PairTable,
+    ticket: Ticket,
+    view: &View,
+) -> Settled
+    requires labels { length book.now.labels ≡ name_count setup.now.task }
+    requires pair { ticket.pair < length table.old.states }
+    requires view { ListsNear setup.now.task ticket.a ticket.b view.now.pairs }
+    ensures settles { SettlesMissed book.now table.old table.new view.now.pairs ticket.pair result }
+    ensures ascends { Ascends view.now.pairs }
+{
+    match overtaken(setup, book, ticket, view) {
+        Some((node, seen, now)) => {
+            table.make_ready(ticket.pair);
+            Settled::Reopened { node, seen, now }
+        }
+        None => {
+            table.mark(ticket.pair, PairState::Missed);
+            Settled::Missed
+        }
+    }
+}
+
+/// Settles a pair that was searched.
+pub fn settle_parts(
+    setup: &Setup,
+    book: &mut Book,
+    table: &mut PairTable,
+    aside: &mut Vec<u32>,
+    ticket: Ticket,
+    view: &View,
+    outcome: Outcome,
+    woken: &mut Woken,
+) -> Settled
+    requires sound { IsSound setup.now.task (state_of book.old table.old) }
+    requires ends { PairAt setup.now.task ticket.pair ticket.a ticket.b }
+    requires view { ListsNear setup.now.task ticket.a ticket.b view.now.pairs }
+    requires outcome { IsRightOutcome setup.now.task (state_of book.old table.old) ticket view.now.pairs outcome }
+    requires room { book.old.room ≡ journal_room setup.now.task }
+    requires aside { length setup.now.task.pairs ≤ vec_capacity aside.old }
+    ensures settles { Settles (running_with setup.now book.old table.old) ticket view.now.pairs outcome result (running_with setup.now book.new table.new) }
+    ensures woken { Notes (running_with setup.now book.old table.old) ticket.pair result (running_with setup.now book.new table.new) woken.old.room woken.new.list }
+    ensures room { book.new.room ≡ book.old.room }
+    ensures aside { vec_capacity aside.new ≡ vec_capacity aside.old }
+    ensures woken_room { woken.new.room ≡ woken.old.room }
+{
+    setup.prepared();
+    woken.clear();
+    if book.same(ticket.a, ticket.b) {
+        table.mark(ticket.pair, PairState::Joined);
+        return Settled::Already;
+    }
+    match outcome {
+        Outcome::Missed => settle_missed(setup, book, table, ticket, view),
+        Outcome::Found(finding) => {
+            let entry = Entry {
+                a: ticket.a,
+                b: ticket.b,
+                key: finding.key,
+                left: finding.left,
+                right: finding.right,
+            };
+            let place = enter_found(setup, book, table, aside, ticket.pair, entry, woken);
+            Settled::Entered(place)
+        }
+    }
+}

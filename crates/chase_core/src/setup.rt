@@ -1,0 +1,180 @@
+//! What a chase works on.
+
+ghost use Rattle.std.specs.Prelude.{◌≡◌, ◌<◌, ◌+◌, ◌^◌, ◌↔◌, ℕ, All, Contains, IfOk, length};
+ghost use Rattle.std.specs.List.Sorted.{IsStrictlyIncreasing};
+ghost use Rattle.chase_laws.specs.Chase.{IsAble};
+ghost use Rattle.chase_laws.specs.Shape.{IsPattern};
+ghost use Rattle.chase_laws.specs.Core.{IsTask, name_count};
+ghost use Rattle.paired_search.specs.Plans.{ArePlans};
+ghost use Rattle.chase_core.specs.Ends.{HasEnd};
+ghost use Rattle.chase_core.specs.Setup.{Ascend, IsMost, IsNearTo, IsWidest};
+
+use crate::pair_index::index_ends;
+use chase_laws::Pattern;
+use gk_base::NoMemory;
+use key_plan::Plan;
+use near_lists::Near;
+use paired_search::plan_all;
+use std::alloc::Global;
+use std::marker::Model;
+use typed_graph::{Graph, Index};
+
+/// A graph, keys, and the pairs of names that a chase searches, with what is near to each name. The pairs have
+/// numbers by their places. Contracts see the three as a task, the keys' plans, what is near, and the widest view.
+#[derive(Drop)]
+pub struct Setup {
+    graph: Graph,
+    patterns: Vec<Pattern>,
+    plans: Vec<Plan>,
+    near: Near,
+    pairs: Vec<(u32, u32)>,
+    ends: Index,
+    widest: u32,
+}
+
+impl Model for Setup {
+    ghost use Rattle.chase_core.specs.Setup.{Prepared, IsPrepared};
+
+    ghost Value = { Prepared };
+
+    ghost use Rattle.chase_core.specs.Kept.{prepared_of};
+
+    ghost view = { prepared_of };
+
+    ghost invariant = { λ s. IsPrepared (prepared_of s) s.ends };
+}
+
+/// What holds of every pattern: it is valid.
+fn is_valid(pattern: &Pattern)
+    ensures { IsPattern pattern.now }
+{
+    let _ = &pattern.slots;
+}
+
+/// What holds of every list of patterns: each is valid.
+fn are_valid(patterns: &[Pattern])
+    ensures { All IsPattern patterns.now }
+{
+    for pattern in patterns {
+        is_valid(pattern);
+    }
+}
+
+/// The greatest number of names near to the ends of one of the pairs.
+fn most_near(near: &Near, pairs: &[(u32, u32)]) -> u64
+    requires { All (λ p. (p.0 < length near.now.near) × (p.1 < length near.now.near)) pairs.now }
+    ensures { IsMost near.now.near pairs.now result }
+{
+    let mut most = 0u64;
+    for (a, b) in pairs {
+        let count = near.near(*a).len() as u64 + near.near(*b).len() as u64;
+        most = most.max(count);
+    }
+    most
+}
+
+impl Setup {
+    /// Prepares a chase: it makes the keys' plans and finds what is near to each name. Each pair is of a name and a
+    /// greater one, and the pairs ascend without repeats; every pair that some key could identify has to be among
+    /// them. Fails only for want of memory.
+    pub fn new(
+        alloc: Global,
+        graph: Graph,
+        patterns: Vec<Pattern>,
+        pairs: Vec<(u32, u32)>,
+    ) -> Result<Setup, NoMemory>
+        requires few_patterns { length patterns.items < 2 ^ 32 }
+        requires few_pairs { length pairs.items < 2 ^ 32 }
+        requires ascend { Ascend pairs.items }
+        requires named { All (λ p. (p.0 < p.1) × (p.1 < length graph.literal)) pairs.items }
+        requires able { (a b : ℕ) → IsAble graph patterns.items a b → Contains pairs.items (a, b) }
+        ensures { IfOk result (λ s. s.task ≡ record { graph = graph; patterns = patterns.items; pairs = pairs.items }) }
+    {
+        let names = graph.names();
+        are_valid(&patterns);
+        let plans = plan_all(alloc, &patterns)?;
+        let near = Near::build(alloc, &graph, &patterns, &plans)?;
+        let ends = index_ends(alloc, &pairs, names)?;
+        let widest = most_near(&near, &pairs).min(u64::from(names)) as u32;
+        Ok(Setup {
+            graph,
+            patterns,
+            plans,
+            near,
+            pairs,
+            ends,
+            widest,
+        })
+    }
+
+    /// What holds of every setup.
+    pub(crate) fn prepared(&self)
+        ensures task { IsTask self.now.task }
+        ensures near { IsNearTo self.now.task self.now.near.near }
+        ensures plans { ArePlans self.now.task.patterns self.now.plans }
+        ensures few_pairs { length self.now.task.pairs < 2 ^ 32 }
+    {
+        let _ = &self.pairs;
+    }
+
+    /// The graph.
+    pub fn graph(&self) -> &Graph
+        ensures graph { result.now ≡ self.now.task.graph }
+        ensures task { IsTask self.now.task }
+    {
+        &self.graph
+    }
+
+    /// The keys' patterns.
+    pub fn patterns(&self) -> &[Pattern]
+        ensures patterns { result.now ≡ self.now.task.patterns }
+        ensures few { length self.now.task.patterns < 2 ^ 32 }
+    {
+        &self.patterns
+    }
+
+    /// The plan of each pattern, at its place.
+    pub fn plans(&self) -> &[Plan]
+        ensures plans { result.now ≡ self.now.plans }
+        ensures are_plans { ArePlans self.now.task.patterns self.now.plans }
+    {
+        &self.plans
+    }
+
+    /// What is near to each name.
+    pub fn near(&self) -> &Near
+        ensures near { result.now ≡ self.now.near }
+        ensures exact { IsNearTo self.now.task self.now.near.near }
+        ensures widest { IsWidest self.now }
+    {
+        &self.near
+    }
+
+    /// The pairs, ascending without repeats.
+    pub fn pairs(&self) -> &[(u32, u32)]
+        ensures pairs { result.now ≡ self.now.task.pairs }
+        ensures few { length self.now.task.pairs < 2 ^ 32 }
+        ensures ascend { Ascend self.now.task.pairs }
+        ensures task { IsTask self.now.task }
+    {
+        &self.pairs
+    }
+
+    /// The numbers of the pairs that have a name as an end, ascending.
+    pub fn pairs_of(&self, e: u32) -> &[u32]
+        requires { e < name_count self.now.task }
+        ensures ascending { IsStrictlyIncreasing result.now }
+        ensures exact { (p : ℕ) → Contains result.now p ↔ HasEnd self.now.task.pairs p e }
+    {
+        self.ends.find(e, 0)
+    }
+
+    /// A room that suffices for the view of any pair: the greatest number of names near to the ends of a pair, those
+    /// near to both counted twice, or the number of names where that is less.
+    pub fn widest(&self) -> u32
+        ensures widest { result ≡ self.now.widest }
+        ensures exact { IsWidest self.now }
+    {
+        self.widest
+    }
+}

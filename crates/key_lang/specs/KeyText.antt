@@ -1,0 +1,53 @@
+-- What a key file says: its keys, or the first refused line and why. The refusals, their order and the limits are this
+-- project's own; lines are those of RDF 1.1 N-Triples, section 7 (EOL).
+use Rattle.std.specs.Prelude.{◌≡◌, ℕ, ◌+◌, nat_lt, List, [], ◌∷◌, length, take, slice_index, if◌then◌else◌, Option, Some, None, Result, Ok, Err}
+use Rattle.nt_reader.specs.Lines.{lines}
+use Rattle.nt_reader.specs.File.{judged, line_of_next}
+use Rattle.key_file.specs.KeyShape.{KeyShape}
+use Rattle.key_lang.specs.declared.fault.KeyFault.{KeyFault}
+use Rattle.key_lang.specs.declared.fault.KeyFault.TheVariants.{FileEndsInsideAKey, FileTooLong}
+use Rattle.key_lang.specs.declared.fault.KeyRefusal.{KeyRefusal}
+use Rattle.key_lang.specs.declared.fault.KeyStop.{KeyStop}
+use Rattle.key_lang.specs.declared.fault.KeyStop.TheVariants.{NoMemory, Refused}
+use Rattle.key_lang.specs.Answers.{Is, Then}
+use Rattle.key_lang.specs.OpenKey.{OpenShape, KeyState}
+use Rattle.key_lang.specs.Statements.{LineSays}
+
+-- the lines from this number on, one after another: the first faulty one is refused with its number
+pub data LinesSay : KeyState → ℕ → List (List ℕ) → Result KeyState KeyRefusal → Type 0 where
+  none : {state : KeyState} {number : ℕ} → LinesSay state number [] (Ok state)
+  faulty : {state : KeyState} {number : ℕ} {line : List ℕ} {more : List (List ℕ)} {fault : KeyFault} → LineSays state line (Err fault)
+      → LinesSay state number (line ∷ more) (Err (record { line = number; fault = fault }))
+  good : {state : KeyState} {number : ℕ} {line : List ℕ} {more : List (List ℕ)} {next : KeyState} {answer : Result KeyState KeyRefusal} → LineSays state line (Ok next)
+      → LinesSay next (number + 1) more answer → LinesSay state number (line ∷ more) answer
+
+-- before the first line
+abbrev pub start : KeyState
+start = record { keys = []; current = None }
+
+-- at the end of the file: a file may end outside keys, and inside one its last line is refused
+abbrev pub ended : List KeyShape → Option OpenShape → ℕ → Result (List KeyShape) KeyRefusal
+ended keys None last = Ok keys
+ended keys (Some key) last = Err (record { line = last; fault = FileEndsInsideAKey })
+
+-- after the lines that are judged: the byte after the limit is refused, with the line to which it belongs
+abbrev pub after_lines : ℕ → List ℕ → KeyState → Result (List KeyShape) KeyRefusal
+after_lines limit bytes state =
+    if nat_lt limit (length bytes) then Err (record { line = line_of_next (take limit bytes) (slice_index bytes limit); fault = FileTooLong })
+    else ended state.keys state.current (length (lines bytes))
+
+-- the keys of a file of at most so many bytes, or its refusal: the lines that end within the limit are judged first
+abbrev pub KeysSay : ℕ → List ℕ → Result (List KeyShape) KeyRefusal → Type 0
+KeysSay limit bytes answer = Then (LinesSay start 1 (judged limit bytes)) (λ state. Is (after_lines limit bytes state)) answer
+
+-- what was answered for a file is to be answered; want of memory may come at any time
+abbrev pub IsTold : {A : Type 0} → (Result A KeyRefusal → Type 0) → Result A KeyStop → Type 0
+IsTold Says (Ok x) = Says (Ok x)
+IsTold Says (Err NoMemory) = Unit {0}
+IsTold Says (Err (Refused refusal)) = Says (Err refusal)
+
+-- this was answered for a file, or memory ran out
+abbrev pub Tells : {A : Type 0} → Result A KeyStop → Result A KeyRefusal → Type 0
+Tells (Ok x) answer = Ok x ≡ answer
+Tells (Err NoMemory) answer = Unit {0}
+Tells (Err (Refused refusal)) answer = Err refusal ≡ answer

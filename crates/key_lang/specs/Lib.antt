@@ -1,0 +1,10 @@
+pub mod Faults
+pub mod Answers
+pub mod Tokens
+pub mod OpenKey
+pub mod Statements
+pub mod KeyText
+pub mod CanonicalKeys
+pub mod Parts
+pub mod Seen
+pub mod Fair

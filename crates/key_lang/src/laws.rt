@@ -1,0 +1,25 @@
+//! What holds of key files for every text. The functions do nothing: their contracts are the laws.
+
+ghost use Rattle.std.specs.Prelude.{◌≡◌, ◌≤◌, ℕ, List, length, Result, Ok};
+ghost use Rattle.key_lang.specs.CanonicalKeys.{keys_text};
+ghost use Rattle.key_file.specs.KeyShape.{KeyShape};
+ghost use Rattle.key_lang.specs.declared.fault.KeyRefusal.{KeyRefusal};
+ghost use Rattle.key_lang.specs.Answers.{HasOne};
+ghost use Rattle.key_lang.specs.OpenKey.{KeyState};
+ghost use Rattle.key_lang.specs.Statements.{LineSays};
+ghost use Rattle.key_lang.specs.KeyText.{KeysSay};
+
+/// After the same lines, a line says one thing.
+pub fn law_one_line_answer()
+    ensures { (state : KeyState) (line : List ℕ) → HasOne (LineSays state line) }
+{}
+
+/// A key file says one thing under a limit: its keys, or one refusal.
+pub fn law_one_keys_answer()
+    ensures { (limit : ℕ) (bytes : List ℕ) (a b : Result (List KeyShape) KeyRefusal) → KeysSay limit bytes a → KeysSay limit bytes b → a ≡ b }
+{}
+
+/// What is written of the keys of a file is read as these keys, under a limit that the text fits.
+pub fn law_keys_read_back()
+    ensures { (limit : ℕ) (bytes : List ℕ) (keys : List KeyShape) → KeysSay limit bytes (Ok keys) → length (keys_text keys) ≤ limit → KeysSay limit (keys_text keys) (Ok keys) }
+{}

@@ -1,0 +1,11 @@
+pub mod Ranges
+pub mod Walking
+pub mod Gathering
+pub mod Pushes
+pub mod Filled
+pub mod Counted
+pub mod Owners
+pub mod Linking
+pub mod Widening
+pub mod Marking
+pub mod Nearness

@@ -1,0 +1,5 @@
+pub mod Lists
+pub mod Turning
+pub mod Walks
+pub mod Radii
+pub mod Neighbourhoods

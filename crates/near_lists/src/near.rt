@@ -1,0 +1,91 @@
+//! Near lists and owners.
+
+ghost use Rattle.std.specs.Prelude.{◌≡◌, ◌<◌, ◌↔◌, ℕ, All, Contains, IfOk, length};
+ghost use Rattle.std.specs.List.Sorted.{IsStrictlyIncreasing};
+ghost use Rattle.chase_laws.specs.Near.{IsNear};
+ghost use Rattle.near_lists.specs.Lists.{list_at};
+ghost use Rattle.near_lists.specs.Radii.{HaveRadii};
+
+use crate::entities::near_rows;
+use crate::links::key_links;
+use crate::radii::widest_radii;
+use crate::rows::Rows;
+use crate::turn::turned;
+use chase_laws::Pattern;
+use gk_base::NoMemory;
+use key_plan::Plan;
+use std::alloc::Global;
+use std::marker::Model;
+use typed_graph::Graph;
+
+/// For each name the entities near to it, and the names that it is near to. An entity is near to e where some key
+/// designates a type of e and a walk of at most as many rows as that key's radius leads there from e. The walk passes
+/// rows in either direction, through literals too, but only rows whose predicate stands in some key.
+#[derive(Drop)]
+pub struct Near {
+    near: Rows,
+    owners: Rows,
+}
+
+impl Model for Near {
+    ghost use Rattle.near_lists.specs.Neighbourhoods.{Neighbourhoods, AreNeighbourhoods};
+
+    ghost Value = { Neighbourhoods };
+
+    ghost view = { λ n. record { near = n.near; owners = n.owners } };
+
+    ghost invariant = { λ n. AreNeighbourhoods n.near n.owners };
+}
+
+impl Near {
+    /// Finds what is near to each name of the graph. The plan at each place has to be that of the pattern there, of
+    /// which only the radius is asked. Memory goes with the key rows and with what stands in the lists. Fails only for
+    /// want of memory.
+    pub fn build(
+        alloc: Global,
+        graph: &Graph,
+        patterns: &[Pattern],
+        plans: &[Plan],
+    ) -> Result<Near, NoMemory>
+        requires radii { HaveRadii patterns.now plans.now }
+        ensures count { IfOk result (λ n. length n.near ≡ length graph.now.literal) }
+        ensures near { IfOk result (λ n. (e m : ℕ) → e < length graph.now.literal →
+            Contains (list_at n.near e) m ↔ IsNear graph.now patterns.now e m) }
+    {
+        let links = key_links(alloc, graph, patterns)?;
+        let radii = widest_radii(alloc, graph, patterns, plans)?;
+        let near = near_rows(alloc, graph, &links, &radii)?;
+        let owners = turned(alloc, &near, graph.names())?;
+        Ok(Near { near, owners })
+    }
+
+    /// The entities near to a name, ascending without repeats. An entity of which some key designates a type is near to
+    /// itself; any other name has an empty list.
+    pub fn near(&self, e: u32) -> &[u32]
+        requires { e < length self.now.near }
+        ensures list { result.now ≡ list_at self.now.near e }
+        ensures ascending { IsStrictlyIncreasing result.now }
+        ensures named { All (λ m. m < length self.now.near) result.now }
+    {
+        self.near.of(e)
+    }
+
+    /// The names whose near list has `n`, ascending without repeats.
+    pub fn owners(&self, n: u32) -> &[u32]
+        requires { n < length self.now.near }
+        ensures list { result.now ≡ list_at self.now.owners n }
+        ensures ascending { IsStrictlyIncreasing result.now }
+        ensures exact { (e : ℕ) →
+            Contains result.now e ↔ ((e < length self.now.near) × Contains (list_at self.now.near e) n) }
+    {
+        self.owners.of(n)
+    }
+
+    /// How many names there are. The names are the numbers below.
+    pub fn names(&self) -> u32
+        ensures names { result ≡ length self.now.near }
+        ensures as_many { length self.now.owners ≡ length self.now.near }
+    {
+        self.near.len() as u32
+    }
+}

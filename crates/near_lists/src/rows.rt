@@ -1,0 +1,93 @@
+//! Many lists in one array. A list takes 8 bytes and a number 4.
+
+ghost use Rattle.std.specs.Prelude.{[], ◌∷◌, ◌++◌, ◌≡◌, ◌<◌, ◌≤◌, IfOk, OnErr, OnOk, length, slice_range};
+ghost use Rattle.std.specs.List.{concat};
+ghost use Rattle.near_lists.specs.Lists.{list_at, cut, AreStarts};
+
+use std::alloc::{AllocError, Global};
+use std::marker::Model;
+
+/// Lists of numbers one behind the other, with the place where each begins, and the end. Contracts see the lists.
+#[derive(Drop)]
+pub struct Rows {
+    starts: Vec<usize>,
+    items: Vec<u32>,
+}
+
+impl Model for Rows {
+    ghost use Rattle.std.specs.Prelude.{List, ℕ};
+    ghost use Rattle.near_lists.specs.Lists.{cut, AreStarts};
+
+    ghost Value = { List (List ℕ) };
+
+    ghost view = { λ r. cut r.starts.items r.items.items };
+
+    ghost invariant = { λ r. AreStarts r.starts.items r.items.items };
+}
+
+/// The numbers from a place up to another.
+fn part(items: &[u32], start: usize, end: usize) -> &[u32]
+    requires start { start ≤ end }
+    requires end { end ≤ length items.now }
+    ensures { result.now ≡ slice_range items.now start end }
+{
+    &items[start..end]
+}
+
+impl Rows {
+    /// No lists.
+    pub fn new(alloc: Global) -> Result<Rows, AllocError>
+        ensures { IfOk result (λ r. r ≡ []) }
+    {
+        let mut starts = Vec::new(alloc);
+        starts.push(0)?;
+        Ok(Rows {
+            starts,
+            items: Vec::new(alloc),
+        })
+    }
+
+    /// The lists that these parts hold.
+    pub fn from_parts(starts: Vec<usize>, items: Vec<u32>) -> Rows
+        requires { AreStarts starts.items items.items }
+        ensures { result ≡ cut starts.items items.items }
+    {
+        Rows { starts, items }
+    }
+
+    /// How many lists there are.
+    pub fn len(&self) -> usize
+        ensures { result ≡ length self.now }
+    {
+        self.starts.len() - 1
+    }
+
+    /// The list at a place.
+    pub fn of(&self, list: u32) -> &[u32]
+        requires { list < length self.now }
+        ensures { result.now ≡ list_at self.now list }
+    {
+        let start = self.starts[list as usize];
+        let end = self.starts[list as usize + 1];
+        part(&self.items, start, end)
+    }
+
+    /// The numbers of all lists.
+    pub fn items(&self) -> &[u32]
+        ensures { result.now ≡ concat self.now }
+    {
+        &self.items
+    }
+
+    /// Adds a list at the end. After want of memory the lists are as before.
+    pub fn push(&mut self, list: &[u32]) -> Result<(), AllocError>
+        ensures ok { OnOk result (self.new ≡ self.old ++ list.now ∷ []) }
+        ensures err { OnErr result (self.new ≡ self.old) }
+    {
+        self.starts.reserve(1)?;
+        self.items.extend_from_slice(list)?;
+        let end = self.items.len();
+        self.starts.push_reserved(end);
+        Ok(())
+    }
+}
