@@ -25,4 +25,3 @@ abbrev pub read_text : ReadFault → List ℕ
 read_text (read.Lex fault) = lex_text fault
 read_text read.TooManyTriples = codes "too many triples"
 read_text read.TooLong = codes "file too long"
-read_text read.NotBuilt = codes "not built"

@@ -15,8 +15,6 @@ pub enum ReadFault {
     TooManyTriples,
     /// Fault 14: the byte after the limit of bytes belongs to it.
     TooLong,
-    /// Fault 15: this version does not read such lines.
-    NotBuilt,
 }
 
 impl ReadFault {
@@ -28,7 +26,6 @@ impl ReadFault {
             ReadFault::Lex(fault) => fault.text(),
             ReadFault::TooManyTriples => b"too many triples",
             ReadFault::TooLong => b"file too long",
-            ReadFault::NotBuilt => b"not built",
         }
     }
 }

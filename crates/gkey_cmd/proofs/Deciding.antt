@@ -1,18 +1,22 @@
 -- How a run ends, from what was read.
-use Rattle.std.proofs.Common.{List, [], ◌∷◌, ◌++◌, ℕ, Option, Some, Result, Ok, Err, IfSome, MatchResult, Vec, Global, vec_items, ◌≡◌, ◌∙◌, inl, inr, refl, sym, subst}
+use Rattle.std.proofs.Common.{List, [], ◌∷◌, ◌++◌, ℕ, Option, Some, Result, Ok, Err, IfSome, IsSomeAnd, MatchResult, Vec, Global, vec_items, ◌≡◌, ◌∙◌, inl, inr, refl, sym, subst}
 use Rattle.gk_base.specs.declared.limits.Limits.{Limits}
 use Rattle.gk_io.specs.Cause.{Rose}
 use Rattle.gk_io.specs.declared.shelf.Shelf
 use Rattle.gk_base.specs.declared.term.Triple.{Triple}
 use Rattle.gk_io.specs.Files.{bytes_of}
-use Rattle.plain_files.specs.KeyText.{KeyText}
+use Rattle.key_file.specs.KeyShape.{KeyShape}
 use Rattle.gkey_cmd.specs.Commands.{Wanted, Matching, files_of}
-use Rattle.gkey_cmd.specs.Reading.{NamedFiles, IsAccepted, GraphSays, KeysSay, IsRefusedSo, AllAccepted, FirstRefused, Refusal, MorePairsThan}
+use Rattle.gkey_cmd.specs.Reading.{NamedFiles, IsAccepted, GraphSays, KeysSay, IsRefusedSo, AllAccepted, FirstRefused, Refusal, InGraph, InKeys, MorePairsThan}
+use Rattle.nt_reader.proofs.OneFile.{file_once}
+use Rattle.key_lang.proofs.OnceLemmas.{keys_once}
+use Rattle.gkey_cmd.specs.Pieces.{StopsSoon, StopsReading}
 use Rattle.gkey_cmd.specs.Matched.{IsReport, HasTooManyPairs}
 use Rattle.gkey_cmd.specs.Written.{HasMorePairs, IsAnswered, IsRefused}
 use Rattle.gkey_cmd.specs.Stops.{MatchEnds}
-use Rattle.gkey_cmd.specs.Causes.{HasFailed, Stopped, ReadBy, ReadSoFar}
+use Rattle.gkey_cmd.specs.Causes.{HasFailed, Stopped, StopsAt, ReadBy, ReadSoFar}
 use Rattle.gkey_cmd.specs.declared.file.File.{File}
+use Rattle.gkey_cmd.specs.declared.file.File.TheVariants.{Graph, Keys}
 use Rattle.gkey_cmd.specs.declared.ending.Answer.TheVariants.{Given}
 use Rattle.gkey_cmd.specs.declared.ending.Ending.{Ending}
 use Rattle.gkey_cmd.specs.declared.ending.Ending.TheVariants.{NoRow, Failed, Refused, NoMemory, Done}
@@ -49,11 +53,21 @@ module _ {K : Type 0} (shelf : Shelf.Ghosts K) (old mid new : K) (limits : Limit
         (λ files a e. accepted_more limits files before file name a e) so_far.accepted (told_first _ accepted);
   }
 
+  -- how far it was read, said of the files as they were told at first
+  stops_first : (f : File) (refusal : Refusal) → StopsAt shelf mid new limits f name refusal → StopsAt shelf old new limits f name refusal
+  stops_first Graph (InGraph refusal) h = (h.0, told_first (λ files. IsSomeAnd (shelf.rest new) (λ rest. StopsSoon limits (bytes_of files name) rest)) h.1)
+  stops_first Graph (InKeys refusal) h = h
+  stops_first Graph (MorePairsThan limit) h = h
+  stops_first Keys (InGraph refusal) h = h
+  stops_first Keys (InKeys refusal) h = h
+  stops_first Keys (MorePairsThan limit) h = h
+
   -- the next file is not to be had
   pub stopped : {A : Type 0} (Says : NamedFiles → A → Type 0) (command : Wanted) (after : List (File × List ℕ)) → files_of command ≡ before ++ (file, name) ∷ after →
+      ((refusal : Refusal) → StopsAt shelf old new limits file name refusal → StopsReading shelf old new (Some command) limits refusal) →
       (ending : Ending) → ReadBy shelf mid new file name limits Says (Err ending) → Stopped shelf old new command limits ending
-  stopped Says command after e NoRow h = absurd h
-  stopped Says command after e (Failed which) h =
+  stopped Says command after e stops NoRow h = absurd h
+  stopped Says command after e stops (Failed which) h =
       let P : File → Type 0 = λ f. HasFailed shelf old new command limits f in
       subst P (sym h.0) (record {
         before = before;
@@ -65,7 +79,7 @@ module _ {K : Type 0} (shelf : Shelf.Ghosts K) (old mid new : K) (limits : Limit
         is_bad = h.3;
         accepted = so_far.accepted;
       })
-  stopped Says command after e (Refused text) h = (
+  stopped Says command after e stops (Refused text) h = (
     h.0 ∙ so_far.count,
     (
       h.1.0,
@@ -73,43 +87,58 @@ module _ {K : Type 0} (shelf : Shelf.Ghosts K) (old mid new : K) (limits : Limit
       told_both (shelf.held old) (λ files. AllAccepted limits files before) (λ files. IsRefusedSo limits files file name h.1.0) _
           (λ files a k. inl (subst (λ fs. FirstRefused limits files fs h.1.0) (sym e) (refused_after limits files before ((file, name) ∷ after) h.1.0 a (inl k))))
           so_far.accepted (told_first _ h.1.2),
+      stops h.1.0 (stops_first file h.1.0 h.1.3),
     ),
   )
-  stopped Says command after e NoMemory h = h ∙ so_far.count
-  stopped Says command after e (Done answer text) h = absurd h
+  stopped Says command after e stops NoMemory h = h ∙ so_far.count
+  stopped Says command after e stops (Done answer text) h = absurd h
 
 -- ---- a match
 
-module _ (limits : Limits) (files : NamedFiles) (graph keys : List ℕ) (triples : List Triple) (key : Option KeyText) (in_graph : GraphSays limits (bytes_of files graph) (Ok triples)) (in_keys : KeysSay limits (bytes_of files keys) (Ok key)) where
+module _ {K : Type 0} (shelf : Shelf.Ghosts K) (old new : K) (limits : Limits) (graph keys : List ℕ) where
+  -- a match that is refused at its graph, and one that is refused at its keys
+  pub stops_at_graph : (refusal : Refusal) → StopsAt shelf old new limits Graph graph refusal → StopsReading shelf old new (Some (Matching graph keys)) limits refusal
+  stops_at_graph (InGraph refusal) h = h
+  stops_at_graph (InKeys refusal) h = absurd h
+  stops_at_graph (MorePairsThan limit) h = absurd h
+
+  pub stops_at_keys : (refusal : Refusal) → StopsAt shelf old new limits Keys keys refusal → StopsReading shelf old new (Some (Matching graph keys)) limits refusal
+  stops_at_keys (InGraph refusal) h = absurd h
+  stops_at_keys (InKeys refusal) h = tt
+  stops_at_keys (MorePairsThan limit) h = absurd h
+
+module _ (limits : Limits) (files : NamedFiles) (graph keys : List ℕ) (triples : List Triple) (key_list : List KeyShape) (in_graph : GraphSays limits (bytes_of files graph) (Ok triples)) (in_keys : KeysSay limits (bytes_of files keys) (Ok key_list)) where
   both_accepted : AllAccepted limits files (files_of (Matching graph keys))
-  both_accepted = ((triples, in_graph), ((key, in_keys), tt))
+  both_accepted = ((triples, in_graph), ((key_list, in_keys), tt))
 
-  more_here : HasTooManyPairs triples key limits.pairs → HasMorePairs limits files (Matching graph keys)
-  more_here h = (triples, key, in_graph, in_keys, h)
+  more_here : HasTooManyPairs triples key_list limits.pairs → HasMorePairs limits files (Matching graph keys)
+  more_here h = (triples, key_list, in_graph, in_keys, h)
 
-  more_only_here : HasMorePairs limits files (Matching graph keys) → HasTooManyPairs triples key limits.pairs
+  more_only_here : HasMorePairs limits files (Matching graph keys) → HasTooManyPairs triples key_list limits.pairs
   more_only_here h =
       let g = h.2 in
       let k = h.3 in
+      let one : Ok h.0 ≡ Ok triples = file_once limits (bytes_of files graph) (Ok h.0) (Ok triples) g in_graph in
       let same_triples : h.0 ≡ triples = cc in
-      let same_key : h.1 ≡ key = cc in
-      subst (λ ts. HasTooManyPairs ts key limits.pairs) same_triples (subst (λ q. HasTooManyPairs h.0 q limits.pairs) same_key h.4)
+      let two : Ok h.1 ≡ Ok key_list = keys_once limits.key_bytes (bytes_of files keys) (Ok h.1) (Ok key_list) k in_keys in
+      let same_key : h.1 ≡ key_list = cc in
+      subst (λ ts. HasTooManyPairs ts key_list limits.pairs) same_triples (subst (λ q. HasTooManyPairs h.0 q limits.pairs) same_key h.4)
 
-  pub is_answered : (text : List ℕ) → IsReport triples key text → ¬ (HasTooManyPairs triples key limits.pairs) → IsAnswered (Some (Matching graph keys)) files limits Given text
-  is_answered text report none_more = ((both_accepted, (λ h. none_more (more_only_here h))), (triples, key, in_graph, in_keys, report))
+  pub is_answered : (text : List ℕ) → IsReport triples key_list text → ¬ (HasTooManyPairs triples key_list limits.pairs) → IsAnswered (Some (Matching graph keys)) files limits Given text
+  is_answered text report none_more = ((both_accepted, (λ h. none_more (more_only_here h))), (triples, key_list, in_graph, in_keys, report))
 
-  pub is_refused : HasTooManyPairs triples key limits.pairs → IsRefused (Some (Matching graph keys)) files limits (MorePairsThan limits.pairs)
+  pub is_refused : HasTooManyPairs triples key_list limits.pairs → IsRefused (Some (Matching graph keys)) files limits (MorePairsThan limits.pairs)
   is_refused h = inr (both_accepted, more_here h, refl)
 
-module _ {K : Type 0} (shelf : Shelf.Ghosts K) (old new : K) (limits : Limits) (graph keys : List ℕ) (triples : List Triple) (key : Option KeyText) (count : shelf.faults new ≡ shelf.faults old)
-    (in_graph : IfSome (shelf.held old) (λ files. GraphSays limits (bytes_of files graph) (Ok triples))) (in_keys : IfSome (shelf.held old) (λ files. KeysSay limits (bytes_of files keys) (Ok key))) where
+module _ {K : Type 0} (shelf : Shelf.Ghosts K) (old new : K) (limits : Limits) (graph keys : List ℕ) (triples : List Triple) (key_list : List KeyShape) (count : shelf.faults new ≡ shelf.faults old)
+    (in_graph : IfSome (shelf.held old) (λ files. GraphSays limits (bytes_of files graph) (Ok triples))) (in_keys : IfSome (shelf.held old) (λ files. KeysSay limits (bytes_of files keys) (Ok key_list))) where
   -- a match that ends so leaves the run so
-  pub match_ended : (result : Result (Vec ℕ Global) Ending) → MatchEnds triples key limits.pairs result →
+  pub match_ended : (result : Result (Vec ℕ Global) Ending) → MatchEnds triples key_list limits.pairs result →
       MatchResult result (λ text. Stopped shelf old new (Matching graph keys) limits (Done Given text)) (Stopped shelf old new (Matching graph keys) limits)
   match_ended (Ok text) h = (
     count,
     told_both (shelf.held old) _ _ (λ files. IsAnswered (Some (Matching graph keys)) files limits Given (vec_items text))
-        (λ files g k. is_answered limits files graph keys triples key g k (vec_items text) h.0 h.1) in_graph in_keys,
+        (λ files g k. is_answered limits files graph keys triples key_list g k (vec_items text) h.0 h.1) in_graph in_keys,
   )
   match_ended (Err (Refused text)) h = (
     count,
@@ -117,7 +146,8 @@ module _ {K : Type 0} (shelf : Shelf.Ghosts K) (old new : K) (limits : Limits) (
       MorePairsThan limits.pairs,
       h.0,
       told_both (shelf.held old) _ _ (λ files. IsRefused (Some (Matching graph keys)) files limits (MorePairsThan limits.pairs))
-          (λ files g k. is_refused limits files graph keys triples key g k h.1) in_graph in_keys,
+          (λ files g k. is_refused limits files graph keys triples key_list g k h.1) in_graph in_keys,
+      tt,
     ),
   )
   match_ended (Err NoMemory) h = count

@@ -1,50 +1,60 @@
--- What is judged of the first bytes of a file, up to one more than the limit, is true of the file.
-use Rattle.std.proofs.Common.{List, ℕ, Option, Some, None, IfSome, Result, ◌≡◌, ◌+◌, ◌<◌, min, sym, ◌∙◌, ap, take, length, arith, inl, inr}
-use Rattle.std.proofs.lemmas.List.{take-take, length-take}
-use Rattle.std.proofs.lemmas.Bool.{cases_lt, lt-ltb, le-ltb}
-use Rattle.std.specs.Prelude.{nat_lt}
-use Rattle.gk_base.specs.declared.term.Triple.{Triple}
-use Rattle.gk_base.specs.declared.read_fault.ReadRefusal.{ReadRefusal}
+-- What is judged of the first bytes of a key file, up to one more than the limit, is true of the file.
+use Rattle.std.proofs.Common.{List, ℕ, Bool, true, false, Option, Some, None, IfSome, Result, Ok, Err, if◌then◌else◌, ◌≡◌, ◌+◌, ◌<◌, ◌≤◌, sym, ◌∙◌, ap, ap₂, subst, take, length, slice_index, arith, inl, inr}
+use Rattle.std.proofs.lemmas.List.{take-take, take_all, length-take-le, get_or-take}
+use Rattle.std.proofs.lemmas.Bool.{cases_lt, lt-ltb, lt-leb}
+use Rattle.std.specs.Prelude.{nat_lt, nat_le}
 use Rattle.gk_io.specs.Files.{bytes_of}
-use Rattle.plain_files.specs.KeyText.{KeyText}
-use Rattle.plain_files.specs.Lines.{lines_of}
-use Rattle.plain_files.specs.PlainGraph.{plain_graph, graph_lines}
-use Rattle.plain_files.specs.PlainKeys.{plain_keys, key_lines}
-use Rattle.plain_files.specs.declared.keys.KeyRefusal.{KeyRefusal}
-use Rattle.plain_files.specs.declared.keys.Progress.TheVariants.{Start}
+use Rattle.nt_reader.specs.Lines.{cut_of, lines}
+use Rattle.nt_reader.specs.File.{judged, line_of_next}
+use Rattle.key_file.specs.KeyShape.{KeyShape}
+use Rattle.key_lang.specs.declared.fault.KeyFault.TheVariants.{FileTooLong}
+use Rattle.key_lang.specs.declared.fault.KeyRefusal.{KeyRefusal}
+use Rattle.key_lang.specs.Answers.{Is, Then, stops, goes_on}
+use Rattle.key_lang.specs.OpenKey.{KeyState}
+use Rattle.key_lang.specs.KeyText.{LinesSay, KeysSay, start, ended, after_lines}
 
--- whether there are more bytes than the limit shows in one byte more
-more_bytes : (limit : ℕ) (bytes : List ℕ) → nat_lt limit (length (take (limit + 1) bytes)) ≡ nat_lt limit (length bytes)
-more_bytes limit bytes =
-    let count : length (take (limit + 1) bytes) ≡ min (limit + 1) (length bytes) = length-take (limit + 1) bytes in
-    elim (cases_lt limit (length bytes)) [
-      | inl lt ↦ (let k : limit < length (take (limit + 1) bytes) = omega arith in lt-ltb limit (length (take (limit + 1) bytes)) k ∙ sym (lt-ltb limit (length bytes) lt))
-      | inr ge ↦ le-ltb limit (length (take (limit + 1) bytes)) (omega arith) ∙ sym (le-ltb limit (length bytes) ge)
-    ]
+-- the first bytes of a longer file
+module _ (limit : ℕ) (bytes : List ℕ) (longer : limit < length bytes) where
+  abbrev front : List ℕ
+  front = take (limit + 1) bytes
 
-front_again : (limit : ℕ) (bytes : List ℕ) → take limit (take (limit + 1) bytes) ≡ take limit bytes
-front_again limit bytes = take-take limit (limit + 1) bytes (omega arith)
+  length_front : length front ≡ limit + 1
+  length_front = length-take-le (limit + 1) bytes (omega arith)
 
-graph_front : (limit : ℕ) (bytes : List ℕ) → plain_graph limit (take (limit + 1) bytes) ≡ plain_graph limit bytes
-graph_front limit bytes =
-    ap (λ b. graph_lines b (lines_of (take limit (take (limit + 1) bytes))).rest 1 (lines_of (take limit (take (limit + 1) bytes))).ended) (more_bytes limit bytes)
-    ∙ ap (λ front. graph_lines (nat_lt limit (length bytes)) (lines_of front).rest 1 (lines_of front).ended) (front_again limit bytes)
+  same_front : take limit front ≡ take limit bytes
+  same_front = take-take limit (limit + 1) bytes (omega arith)
 
-keys_front : (limit : ℕ) (bytes : List ℕ) → plain_keys limit (take (limit + 1) bytes) ≡ plain_keys limit bytes
-keys_front limit bytes =
-    ap (λ b. key_lines b (lines_of (take limit (take (limit + 1) bytes))).rest 1 Start (lines_of (take limit (take (limit + 1) bytes))).ended) (more_bytes limit bytes)
-    ∙ ap (λ front. key_lines (nat_lt limit (length bytes)) (lines_of front).rest 1 Start (lines_of front).ended) (front_again limit bytes)
+  judged_long : (xs : List ℕ) → limit < length xs → judged limit xs ≡ (cut_of (take limit xs)).ended
+  judged_long xs h = ap (λ b. if b then lines xs else (cut_of (take limit xs)).ended) (lt-leb (length xs) limit h)
 
-pub graph_loaded : (held : Option (List (List ℕ × List ℕ))) (limit : ℕ) (name bytes seen : List ℕ) (answer : Result (List Triple) ReadRefusal) →
-    IfSome held (λ files. bytes ≡ take (limit + 1) (bytes_of files name)) → seen ≡ bytes → plain_graph limit seen ≡ answer →
-    IfSome held (λ files. plain_graph limit (bytes_of files name) ≡ answer)
-graph_loaded None limit name bytes seen answer h e j = tt
-graph_loaded (Some files) limit name bytes seen answer h e j =
-    sym (graph_front limit (bytes_of files name)) ∙ ap (plain_graph limit) (sym (e ∙ h)) ∙ j
+  same_judged : judged limit front ≡ judged limit bytes
+  same_judged = judged_long front (omega (arith, length_front)) ∙ ap (λ xs. (cut_of xs).ended) same_front ∙ sym (judged_long bytes longer)
 
-pub keys_loaded : (held : Option (List (List ℕ × List ℕ))) (limit : ℕ) (name bytes seen : List ℕ) (answer : Result (Option KeyText) KeyRefusal) →
-    IfSome held (λ files. bytes ≡ take (limit + 1) (bytes_of files name)) → seen ≡ bytes → plain_keys limit seen ≡ answer →
-    IfSome held (λ files. plain_keys limit (bytes_of files name) ≡ answer)
+  abbrev refusal_of : List ℕ → Result (List KeyShape) KeyRefusal
+  refusal_of xs = Err (record { line = line_of_next (take limit xs) (slice_index xs limit); fault = FileTooLong })
+
+  after_long : (xs : List ℕ) → limit < length xs → (state : KeyState) → after_lines limit xs state ≡ refusal_of xs
+  after_long xs h state = ap (λ b. if b then refusal_of xs else ended state.keys state.current (length (lines xs))) (lt-ltb limit (length xs) h)
+
+  same_refusal : refusal_of front ≡ refusal_of bytes
+  same_refusal = ap₂ (λ xs b. Err (record { line = line_of_next xs b; fault = FileTooLong })) same_front (get_or-take (limit + 1) bytes limit 0 (omega arith))
+
+  same_after : (state : KeyState) → after_lines limit front state ≡ after_lines limit bytes state
+  same_after state = after_long front (omega (arith, length_front)) state ∙ same_refusal ∙ sym (after_long bytes longer state)
+
+  keys_long : (answer : Result (List KeyShape) KeyRefusal) → KeysSay limit front answer → KeysSay limit bytes answer
+  keys_long (Err refusal) (stops h) = stops (subst (λ ls. LinesSay start 1 ls (Err refusal)) same_judged h)
+  keys_long answer (goes_on {x} h e) = goes_on (subst (λ ls. LinesSay start 1 ls (Ok x)) same_judged h) (e ∙ same_after x)
+
+keys_front : (limit : ℕ) (bytes : List ℕ) (answer : Result (List KeyShape) KeyRefusal) → KeysSay limit (take (limit + 1) bytes) answer → KeysSay limit bytes answer
+keys_front limit bytes answer h = elim (cases_lt limit (length bytes)) [
+  | inl longer ↦ keys_long limit bytes longer answer h
+  | inr whole ↦ subst (λ xs. KeysSay limit xs answer) (take_all (limit + 1) bytes (omega arith)) h
+]
+
+pub keys_loaded : (held : Option (List (List ℕ × List ℕ))) (limit : ℕ) (name bytes seen : List ℕ) (answer : Result (List KeyShape) KeyRefusal) →
+    IfSome held (λ files. bytes ≡ take (limit + 1) (bytes_of files name)) → seen ≡ bytes → KeysSay limit seen answer →
+    IfSome held (λ files. KeysSay limit (bytes_of files name) answer)
 keys_loaded None limit name bytes seen answer h e j = tt
 keys_loaded (Some files) limit name bytes seen answer h e j =
-    sym (keys_front limit (bytes_of files name)) ∙ ap (plain_keys limit) (sym (e ∙ h)) ∙ j
+    keys_front limit (bytes_of files name) answer (subst (λ xs. KeysSay limit xs answer) (e ∙ h) j)

@@ -1,7 +1,7 @@
 pub mod Fronts
 pub mod Told
+pub mod FeedingLemmas
 pub mod Deciding
 pub mod Running
 pub mod Rows
 pub mod Reports
-pub mod FewTriples

@@ -1,5 +1,5 @@
 -- The report of the graph that was built is that of the triples.
-use Rattle.std.proofs.Common.{List, ℕ, Bool, Option, IsTrue, ◌↔◌, ◌^◌, None, Some, length, slice_index, ◌==◌, ◌≡◌, ◌∙◌, ◌<◌, sym, ap, subst, arith, eqb-true, eq-eqb}
+use Rattle.std.proofs.Common.{List, ℕ, Bool, Option, IsTrue, ◌↔◌, ◌^◌, None, Some, length, slice_index, ◌==◌, ◌≡◌, ◌∙◌, ◌<◌, ◌≤◌, sym, ap, subst, arith, eqb-true, eq-eqb}
 use Rattle.std.proofs.lemmas.List.{length-map}
 use Rattle.std.proofs.lemmas.List.Elements.{All-weaker}
 use Rattle.gk_base.specs.Term.{is_literal}
@@ -17,8 +17,8 @@ use Rattle.pair_seed.specs.Stop.{IsRightStop}
 use Rattle.pair_seed.specs.declared.stop.SeedStop.{SeedStop}
 use Rattle.pair_seed.specs.declared.stop.SeedStop.TheVariants.{NoMemory, TooManyPairs}
 use Rattle.match_run.specs.Classes.{AreClasses}
-use Rattle.plain_files.specs.KeyText.{KeyText}
-use Rattle.plain_files.specs.Compile.{patterns_of}
+use Rattle.key_file.specs.KeyShape.{KeyShape}
+use Rattle.key_file.specs.Compile.{patterns_of, shape_of}
 use Rattle.gkey_cmd.specs.Numbered.{names_for, graph_of, AreSameGraph}
 use Rattle.gkey_cmd.specs.Matched.{IsReport, HasTooManyPairs}
 use Rattle.gkey_cmd.specs.Stops.{IsRightMatchStop}
@@ -32,14 +32,14 @@ more_too G F K limit s h = record {
   more = h.more;
 }
 
-module _ (triples : List Triple) (key : Option KeyText) (G : NumberedGraph) (names : List Term) (K : List Shape) (are_names : names ≡ names_for triples key) (built : AreSameGraph G (graph_of names triples)) (are_patterns : K ≡ patterns_of names key) where
+module _ (triples : List Triple) (keys : List KeyShape) (G : NumberedGraph) (names : List Term) (K : List Shape) (are_names : names ≡ names_for triples keys) (built : AreSameGraph G (graph_of names triples)) (are_patterns : K ≡ patterns_of names keys) where
   pub has_names : length G.literal ≡ length names
   has_names = ap length built.there.literal ∙ length-map names is_literal
 
-  -- what is said of the built graph and the patterns, said of the triples and the key
+  -- what is said of the built graph and the patterns, said of the triples and the keys
   pub said : (P : NumberedGraph → List Shape → List Term → Type 0) → P (graph_of names triples) K names →
-      P (graph_of (names_for triples key) triples) (patterns_of (names_for triples key) key) (names_for triples key)
-  said P h = subst (λ ns. P (graph_of ns triples) (patterns_of ns key) ns) are_names (subst (λ k. P (graph_of names triples) k names) are_patterns h)
+      P (graph_of (names_for triples keys) triples) (patterns_of (names_for triples keys) keys) (names_for triples keys)
+  said P h = subst (λ ns. P (graph_of ns triples) (patterns_of ns keys) ns) are_names (subst (λ k. P (graph_of names triples) k names) are_patterns h)
 
   same_of : (labels : List ℕ) → AreClasses G K labels → (a b : ℕ) → a < length names → b < length names →
       IsTrue (slice_index labels a == slice_index labels b) ↔ AreSame (graph_of names triples) K a b
@@ -50,25 +50,21 @@ module _ (triples : List Triple) (key : Option KeyText) (G : NumberedGraph) (nam
         (λ k. eq-eqb (slice_index labels a) (slice_index labels b) (s.1 (same_too (graph_of names triples) G built.back K a b k))),
       )
 
-  pub report_is : (labels text : List ℕ) → AreClasses G K labels → text ≡ report_text (texts_of names) (λ a b. slice_index labels a == slice_index labels b) → IsReport triples key text
+  pub report_is : (labels text : List ℕ) → AreClasses G K labels → text ≡ report_text (texts_of names) (λ a b. slice_index labels a == slice_index labels b) → IsReport triples keys text
   report_is labels text c e = said (λ F Q ns. (same : ℕ → ℕ → Bool) × ((a b : ℕ) → a < length ns → b < length ns → IsTrue (same a b) ↔ AreSame F Q a b) × (text ≡ report_text (texts_of ns) same))
       ((λ a b. slice_index labels a == slice_index labels b), same_of labels c, e)
 
-  pub too_many : (limit : ℕ) → HasMoreCandidates G K limit → HasTooManyPairs triples key limit
+  pub too_many : (limit : ℕ) → HasMoreCandidates G K limit → HasTooManyPairs triples keys limit
   too_many limit h = said (λ F Q ns. HasMoreCandidates F Q limit) (more_too G (graph_of names triples) K limit built h)
 
-  pub not_too_many : (limit : ℕ) → ¬ (HasMoreCandidates G K limit) → ¬ (HasTooManyPairs triples key limit)
+  pub not_too_many : (limit : ℕ) → ¬ (HasMoreCandidates G K limit) → ¬ (HasTooManyPairs triples keys limit)
   not_too_many limit none_more h = none_more (more_too (graph_of names triples) G K limit (record { there = built.back; back = built.there })
-      (subst (λ k. HasMoreCandidates (graph_of names triples) k limit) (sym are_patterns) (subst (λ ns. HasMoreCandidates (graph_of ns triples) (patterns_of ns key) limit) (sym are_names) h)))
+      (subst (λ k. HasMoreCandidates (graph_of names triples) k limit) (sym are_patterns) (subst (λ ns. HasMoreCandidates (graph_of ns triples) (patterns_of ns keys) limit) (sym are_names) h)))
 
-  pub right_stop : (limit : ℕ) (stop : SeedStop) → IsRightStop G K limit stop → IsRightMatchStop triples key limit stop
+  pub right_stop : (limit : ℕ) (stop : SeedStop) → IsRightStop G K limit stop → IsRightMatchStop triples keys limit stop
   right_stop limit NoMemory h = tt
   right_stop limit (TooManyPairs found) h = too_many limit h.1
 
--- a key file has at most one pattern
-pub few_patterns : (names : List Term) (key : Option KeyText) (K : List Shape) → K ≡ patterns_of names key → length K < 2 ^ 32
-few_patterns names key K e = subst (λ k. length k < 2 ^ 32) (sym e) (go key)
-  where
-    go : (k : Option KeyText) → length (patterns_of names k) < 2 ^ 32
-    go None = omega arith
-    go (Some k) = omega arith
+-- a key file has few patterns
+pub few_patterns : (names : List Term) (keys : List KeyShape) (K : List Shape) → K ≡ patterns_of names keys → length keys ≤ 64 → length K < 2 ^ 32
+few_patterns names keys K e few = let a : length K ≡ length keys = ap length e ∙ length-map keys (shape_of names) in omega arith

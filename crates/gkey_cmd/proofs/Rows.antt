@@ -2,7 +2,6 @@
 use Rattle.std.proofs.Common.{inl, inr, List, [], ◌∷◌, ◌++◌, ℕ, Bool, true, Option, Some, None, All, Contains, IsSome, if◌then◌else◌, map, length, slice_get, slice_index, ◌↔◌, get_or, take, reverse, ◌≡◌, ◌<◌, ◌≤◌, ◌+◌, ◌*◌, IfSome, ◌^◌, refl, sym, ◌∙◌, ap, subst, arith, length-append, append_assoc, append-nil}
 use Rattle.std.proofs.lemmas.List.{map-append, length-map, reverse-append, take_more}
 use Rattle.std.proofs.lemmas.List.Elements.{All-nil, All-cons}
-use Rattle.gk_base.specs.declared.term.Term.TheVariants.{Iri}
 use Rattle.std.proofs.lemmas.Bool.{cases_Bool}
 use Rattle.std.proofs.lemmas.Option.{slice_get_within, get_or_from_slice_get, slice_get-get_or}
 use Rattle.gk_base.specs.Term.{is_literal}
@@ -10,9 +9,6 @@ use Rattle.gk_base.specs.declared.term.Term.{Term}
 use Rattle.gk_base.specs.declared.term.Triple.{Triple}
 use Rattle.term_table.specs.Numbering.{is_named, place_of, with_term, with_terms, names_of, AreDistinct}
 use Rattle.term_table.proofs.NumberingLemmas.{slice_get-place_of, is_named-at, place_of-at, place_of-within, slice_get-with_term, is_named-added, is_named-with_term, is_named-with_terms, place_of-with_terms, names_of-append, length-with_terms}
-use Rattle.plain_files.specs.KeyText.{KeyText}
-use Rattle.plain_files.specs.Compile.{key_terms}
-use Rattle.plain_files.specs.PlainKeyFacts.{IsPlainKey}
 use Rattle.chase_laws.specs.Graph.{NumberedGraph, IsFolding}
 use Rattle.term_table.specs.Folding.{folds_of, IsLiteralAt}
 use Rattle.gkey_cmd.specs.Numbered.{triple_terms, terms_of, row_of, rdf_type, type_number, graph_of, AreSameGraph}
@@ -101,7 +97,7 @@ pub few_names : (ts : List Triple) → length (names_of (terms_of ts)) ≤ 3 * l
 few_names ts = let a = (length-with_terms [] (terms_of ts)).1 in let b = length-terms_of ts in omega arith
 
 -- while some are left the names are few
-pub still_few : (all left : List Triple) (names : List Term) (rows : List (List ℕ)) (done : List Triple) → HasNumbered all left names rows done → length all ≤ 2 ^ 29 → length names + 3 < 2 ^ 32
+pub still_few : (all left : List Triple) (names : List Term) (rows : List (List ℕ)) (done : List Triple) → HasNumbered all left names rows done → length all ≤ 2 ^ 22 → length names + 3 < 2 ^ 32
 still_few all left names rows done h few =
     let a : length all ≡ length done + length (reverse left) = ap length h.whole ∙ length-append done (reverse left) in
     let b : length names ≤ 3 * length done = subst (λ ns. length ns ≤ 3 * length done) (sym h.names_are) (few_names done) in

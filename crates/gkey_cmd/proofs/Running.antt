@@ -1,12 +1,16 @@
 -- What a run leaves, from how it ends.
-use Rattle.std.proofs.Common.{List, [], ◌∷◌, ℕ, Option, Some, None, IfSome, vec_items, ◌≡◌, ◌≢◌, ◌∙◌, inl, inr, refl, sym, ap, subst, append-nil, arith}
+use Rattle.std.proofs.Common.{List, [], ◌∷◌, ℕ, Option, Some, None, IfSome, vec_items, Ok, Err, ◌≡◌, ◌≢◌, ◌∙◌, inl, inr, refl, sym, ap, subst, append-nil, arith}
 use Rattle.gk_base.specs.declared.limits.Limits.{Limits}
 use Rattle.gk_io.specs.Cause.{Rose}
+use Rattle.gk_io.specs.Files.{bytes_of}
 use Rattle.gk_io.specs.Taken.{Appends}
 use Rattle.gk_io.specs.declared.shelf.Shelf
 use Rattle.gk_io.specs.declared.sink.Sink
 use Rattle.gkey_cmd.specs.Commands.{Wanted, files_of}
 use Rattle.gkey_cmd.specs.Reading.{NamedFiles, IsAccepted, IsRefusedSo, AllAccepted, FirstRefused, Refusal, InGraph, InKeys, MorePairsThan, refused_text}
+use Rattle.nt_reader.proofs.OneFile.{file_once}
+use Rattle.key_lang.proofs.OnceLemmas.{keys_once}
+use Rattle.gkey_cmd.specs.Pieces.{StopsReading}
 use Rattle.gkey_cmd.specs.Sent.{TookAll, TookLess, Sent}
 use Rattle.gkey_cmd.specs.Written.{usage, write_failed, status_of, IsAnswer, IsRefused, AreAccepted, IsAnswered, Written, AsNoCommand, AsRefused, AsAnswered}
 use Rattle.gkey_cmd.specs.Causes.{Caused, Ends}
@@ -36,6 +40,9 @@ took_nothing sink old new e = record {
 is_answer : (answer : Answer) → IsAnswer (status_of answer)
 is_answer Given = inl refl
 
+not_two : (answer : Answer) → status_of answer ≡ 2 → ⊥
+not_two Given e = omega arith
+
 not_four : (answer : Answer) → status_of answer ≡ 4 → ⊥
 not_four Given e = omega arith
 
@@ -45,21 +52,27 @@ no_answer status other e one zero h = elim h [ inl k ↦ zero (sym k ∙ e) | in
 -- ---- a file is accepted, or refused in one way
 
 refused_once : (limits : Limits) (files : NamedFiles) (file : File) (name : List ℕ) (r s : Refusal) → IsRefusedSo limits files file name r → IsRefusedSo limits files file name s → r ≡ s
-refused_once limits files Graph name (InGraph r) (InGraph s) h k = cc
+refused_once limits files Graph name (InGraph r) (InGraph s) h k =
+    let one : Err r ≡ Err s = file_once limits (bytes_of files name) (Err r) (Err s) h k in
+    let same : r ≡ s = cc in ap InGraph same
 refused_once limits files Graph name (InGraph r) (InKeys s) h k = absurd k
 refused_once limits files Graph name (InGraph r) (MorePairsThan n) h k = absurd k
 refused_once limits files Graph name (InKeys r) s h k = absurd h
 refused_once limits files Graph name (MorePairsThan n) s h k = absurd h
-refused_once limits files Keys name (InKeys r) (InKeys s) h k = cc
+refused_once limits files Keys name (InKeys r) (InKeys s) h k =
+    let one : Err r ≡ Err s = keys_once limits.key_bytes (bytes_of files name) (Err r) (Err s) h k in
+    let same : r ≡ s = cc in ap InKeys same
 refused_once limits files Keys name (InKeys r) (InGraph s) h k = absurd k
 refused_once limits files Keys name (InKeys r) (MorePairsThan n) h k = absurd k
 refused_once limits files Keys name (InGraph r) s h k = absurd h
 refused_once limits files Keys name (MorePairsThan n) s h k = absurd h
 
 not_both : (limits : Limits) (files : NamedFiles) (file : File) (name : List ℕ) (r : Refusal) → IsRefusedSo limits files file name r → IsAccepted limits files file name → ⊥
-not_both limits files Graph name (InGraph r) h k = let a = k.1 in cc
+not_both limits files Graph name (InGraph r) h k =
+    let one : Err r ≡ Ok k.0 = file_once limits (bytes_of files name) (Err r) (Ok k.0) h k.1 in cc
 not_both limits files Graph name (InKeys r) h k = h
-not_both limits files Keys name (InKeys r) h k = let a = k.1 in cc
+not_both limits files Keys name (InKeys r) h k =
+    let one : Err r ≡ Ok k.0 = keys_once limits.key_bytes (bytes_of files name) (Err r) (Ok k.0) h k.1 in cc
 not_both limits files Keys name (InGraph r) h k = h
 not_both limits files Graph name (MorePairsThan n) h k = h
 not_both limits files Keys name (MorePairsThan n) h k = h
@@ -180,11 +193,24 @@ module _ {K O E : Type 0} (shelf : Shelf.Ghosts K) (out : Sink.Ghosts O) (err : 
         (λ files r. subst (λ w. IsRefused w files limits c.2.1.0) (sym c.1) r) c.2.1.2,
   )
   refused_of NoMemory c d two = absurd (omega arith)
-  refused_of (Done answer text) c (inl w) two = absurd (no_two answer (sym w.0 ∙ two))
-    where
-      no_two : (a : Answer) → status_of a ≡ 2 → ⊥
-      no_two Given k = omega arith
+  refused_of (Done answer text) c (inl w) two = absurd (not_two answer (sym w.0 ∙ two))
   refused_of (Done answer text) c (inr w) two = absurd (let four = w.0 in omega arith)
+
+  pub stops_of : (ending : Ending) → Caused shelf old new command limits ending → Ends out err o o' e e' ending status → status ≡ 2 →
+      (refusal : Refusal) × Sent err e e' (refused_text refusal) × IfSome (shelf.held old) (λ files. IsRefused command files limits refusal)
+      × StopsReading shelf old new command limits refusal
+  stops_of NoRow c d two = absurd (omega arith)
+  stops_of (Failed file) c d two = absurd (omega arith)
+  stops_of (Refused text) c d two = (
+    c.2.1.0,
+    subst (λ t. Sent err e e' t) c.2.1.1 d.2,
+    told_more (shelf.held old) (λ files. IsRefused (Some c.0) files limits c.2.1.0) _
+        (λ files r. subst (λ w. IsRefused w files limits c.2.1.0) (sym c.1) r) c.2.1.2,
+    subst (λ w. StopsReading shelf old new w limits c.2.1.0) (sym c.1) c.2.1.3,
+  )
+  stops_of NoMemory c d two = absurd (omega arith)
+  stops_of (Done answer text) c (inl w) two = absurd (not_two answer (sym w.0 ∙ two))
+  stops_of (Done answer text) c (inr w) two = absurd (let four = w.0 in omega arith)
 
   pub unwritten_of : (ending : Ending) → Caused shelf old new command limits ending → Ends out err o o' e e' ending status → status ≡ 4 →
       Sent err e e' write_failed × ((answer : Answer) × (output : List ℕ) × TookLess out o o' output

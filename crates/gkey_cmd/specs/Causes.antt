@@ -6,10 +6,12 @@ use Rattle.gk_io.specs.declared.shelf.Shelf
 use Rattle.gk_io.specs.declared.sink.Sink
 use Rattle.gkey_cmd.specs.Commands.{Wanted, files_of}
 use Rattle.gkey_cmd.specs.Files.{read_failed}
+use Rattle.gkey_cmd.specs.Pieces.{StopsReading, GraphStops}
 use Rattle.gkey_cmd.specs.Sent.{TookAll, TookLess, Sent}
-use Rattle.gkey_cmd.specs.Reading.{NamedFiles, Refusal, refused_text, IsRefusedSo, AllAccepted}
+use Rattle.gkey_cmd.specs.Reading.{NamedFiles, Refusal, InGraph, InKeys, MorePairsThan, refused_text, IsRefusedSo, AllAccepted}
 use Rattle.gkey_cmd.specs.Written.{usage, out_of_memory, write_failed, status_of, IsRefused, IsAnswered}
 use Rattle.gkey_cmd.specs.declared.file.File.{File}
+use Rattle.gkey_cmd.specs.declared.file.File.TheVariants.{Graph, Keys}
 use Rattle.gkey_cmd.specs.declared.ending.Ending.{Ending}
 use Rattle.gkey_cmd.specs.declared.ending.Ending.TheVariants.{NoRow, Failed, Refused, NoMemory, Done}
 
@@ -31,7 +33,8 @@ Stopped shelf old new command limits NoRow = ⊥
 Stopped shelf old new command limits (Failed file) = HasFailed shelf old new command limits file
 Stopped shelf old new command limits (Refused text) = (shelf.faults new ≡ shelf.faults old)
     × ((refusal : Refusal) × (vec_items text ≡ refused_text refusal)
-    × IfSome (shelf.held old) (λ files. IsRefused (Some command) files limits refusal))
+    × IfSome (shelf.held old) (λ files. IsRefused (Some command) files limits refusal)
+    × StopsReading shelf old new (Some command) limits refusal)
 Stopped shelf old new command limits NoMemory = shelf.faults new ≡ shelf.faults old
 Stopped shelf old new command limits (Done answer text) = (shelf.faults new ≡ shelf.faults old)
     × IfSome (shelf.held old) (λ files. IsAnswered (Some command) files limits answer (vec_items text))
@@ -41,6 +44,15 @@ abbrev pub Caused : {K : Type 0} (shelf : Shelf.Ghosts K) (old new : K) (command
 Caused shelf old new command limits NoRow = (command ≡ None) × (shelf.faults new ≡ shelf.faults old)
 Caused shelf old new command limits ending = (wanted : Wanted) × (command ≡ Some wanted) × Stopped shelf old new wanted limits ending
 
+-- how far a file was read that is refused so
+abbrev pub StopsAt : {K : Type 0} (shelf : Shelf.Ghosts K) (old new : K) → Limits → File → List ℕ → Refusal → Type 0
+StopsAt shelf old new limits Graph name (InGraph refusal) = GraphStops shelf old new limits name
+StopsAt shelf old new limits Graph name (InKeys refusal) = ⊥
+StopsAt shelf old new limits Graph name (MorePairsThan limit) = ⊥
+StopsAt shelf old new limits Keys name (InGraph refusal) = ⊥
+StopsAt shelf old new limits Keys name (InKeys refusal) = Unit {0}
+StopsAt shelf old new limits Keys name (MorePairsThan limit) = ⊥
+
 -- One file was read under a name: what it says, or why the run ends at it.
 abbrev pub ReadBy : {K A : Type 0} (shelf : Shelf.Ghosts K) (old new : K) (file : File) (name : List ℕ) (limits : Limits) (Says : NamedFiles → A → Type 0) → Result A Ending → Type 0
 ReadBy shelf old new file name limits Says (Ok content) = (shelf.faults new ≡ shelf.faults old) × IfSome (shelf.held old) (λ files. Says files content)
@@ -48,7 +60,8 @@ ReadBy shelf old new file name limits Says (Err (Failed which)) = (which ≡ fil
     × Rose (shelf.faults old) (shelf.faults new) × (shelf.asked new ≡ Some name) × IsTrue (shelf.bad new)
 ReadBy shelf old new file name limits Says (Err (Refused text)) = (shelf.faults new ≡ shelf.faults old)
     × ((refusal : Refusal) × (vec_items text ≡ refused_text refusal)
-    × IfSome (shelf.held old) (λ files. IsRefusedSo limits files file name refusal))
+    × IfSome (shelf.held old) (λ files. IsRefusedSo limits files file name refusal)
+    × StopsAt shelf old new limits file name refusal)
 ReadBy shelf old new file name limits Says (Err NoMemory) = shelf.faults new ≡ shelf.faults old
 ReadBy shelf old new file name limits Says (Err NoRow) = ⊥
 ReadBy shelf old new file name limits Says (Err (Done answer text)) = ⊥

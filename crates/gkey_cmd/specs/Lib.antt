@@ -3,6 +3,8 @@ pub mod Commands
 pub mod Numbered
 pub mod Matched
 pub mod Reading
+pub mod Pieces
+pub mod Feeding
 pub mod Sent
 pub mod Written
 pub mod Causes

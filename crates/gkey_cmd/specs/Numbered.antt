@@ -7,8 +7,8 @@ use Rattle.gk_base.specs.declared.term.Triple.{Triple}
 use Rattle.chase_laws.specs.Graph.{NumberedGraph, HasRowsOf}
 use Rattle.term_table.specs.Numbering.{is_named, place_of, names_of}
 use Rattle.term_table.specs.Folding.{folds_of}
-use Rattle.plain_files.specs.KeyText.{KeyText}
-use Rattle.plain_files.specs.Compile.{key_terms}
+use Rattle.key_file.specs.KeyShape.{KeyShape}
+use Rattle.key_file.specs.Compile.{key_terms}
 
 -- the term rdf:type (RDF Schema 1.1, section 3.3)
 abbrev pub rdf_type : Term
@@ -22,10 +22,10 @@ triple_terms triple = triple.subject ∷ triple.predicate ∷ triple.object ∷ 
 abbrev pub terms_of : List Triple → List Term
 terms_of triples = flat_map triple_terms triples
 
--- The names of a graph and a key file: the distinct terms of the triples in their order, then those of the key. A name's
+-- The names of a graph and a key file: the distinct terms of the triples in their order, then those of the keys. A name's
 -- number is its place (this project's own).
-abbrev pub names_for : List Triple → Option KeyText → List Term
-names_for triples key = names_of (terms_of triples ++ key_terms key)
+abbrev pub names_for : List Triple → List KeyShape → List Term
+names_for triples keys = names_of (terms_of triples ++ key_terms keys)
 
 -- a triple in numbers
 abbrev pub row_of : List Term → Triple → List ℕ

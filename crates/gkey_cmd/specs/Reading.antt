@@ -6,10 +6,11 @@ use Rattle.gk_base.specs.declared.limits.Limits.{Limits}
 use Rattle.gk_base.specs.declared.term.Triple.{Triple}
 use Rattle.gk_base.specs.declared.read_fault.ReadRefusal.{ReadRefusal}
 use Rattle.gk_io.specs.Files.{bytes_of}
-use Rattle.plain_files.specs.KeyText.{KeyText}
-use Rattle.plain_files.specs.PlainGraph.{plain_graph}
-use Rattle.plain_files.specs.PlainKeys.{plain_keys, key_text}
-use Rattle.plain_files.specs.declared.keys.KeyRefusal.{KeyRefusal}
+use Rattle.nt_reader.specs.File.{FileSays}
+use Rattle.key_file.specs.KeyShape.{KeyShape}
+use Rattle.key_lang.specs.KeyText.{KeysSay as KeyFileSays}
+use Rattle.key_lang.specs.Faults.{key_fault_text}
+use Rattle.key_lang.specs.declared.fault.KeyRefusal.{KeyRefusal}
 use Rattle.gkey_cmd.specs.Files.{file_text}
 use Rattle.gkey_cmd.specs.declared.file.File.{File}
 use Rattle.gkey_cmd.specs.declared.file.File.TheVariants.{Graph, Keys}
@@ -18,13 +19,13 @@ use Rattle.gkey_cmd.specs.declared.file.File.TheVariants.{Graph, Keys}
 abbrev pub NamedFiles : Type 0
 NamedFiles = List (List ℕ × List ℕ)
 
--- what the bytes of a graph say: its triples, or the first refused line
+-- what the bytes of a graph say as a file of N-Triples: its triples, or the first refused line
 abbrev pub GraphSays : Limits → List ℕ → Result (List Triple) ReadRefusal → Type 0
-GraphSays limits bytes answer = plain_graph limits.bytes bytes ≡ answer
+GraphSays limits bytes answer = FileSays limits bytes answer
 
--- what the bytes of a key file say: its key, if it has one, or the first refused line
-abbrev pub KeysSay : Limits → List ℕ → Result (Option KeyText) KeyRefusal → Type 0
-KeysSay limits bytes answer = plain_keys limits.key_bytes bytes ≡ answer
+-- what the bytes of a key file say: its keys, or the first refused line
+abbrev pub KeysSay : Limits → List ℕ → Result (List KeyShape) KeyRefusal → Type 0
+KeysSay limits bytes answer = KeyFileSays limits.key_bytes bytes answer
 
 -- why there is no answer: a line of the graph or of the key file is refused, or there are too many candidate pairs
 pub data Refusal : Type 0 where
@@ -39,13 +40,13 @@ line_text file line fault = file_text file ++ codes ":" ++ decimal line ++ codes
 -- the error text of a refusal
 abbrev pub refused_text : Refusal → List ℕ
 refused_text (InGraph refusal) = line_text Graph refusal.line (read_text refusal.fault)
-refused_text (InKeys refusal) = line_text Keys refusal.line (key_text refusal.fault)
+refused_text (InKeys refusal) = line_text Keys refusal.line (key_fault_text refusal.fault)
 refused_text (MorePairsThan limit) = codes "pairs: more than " ++ decimal limit ++ codes "\n"
 
 -- the file under this name is accepted
 abbrev pub IsAccepted : Limits → NamedFiles → File → List ℕ → Type 0
 IsAccepted limits files Graph name = (triples : List Triple) × GraphSays limits (bytes_of files name) (Ok triples)
-IsAccepted limits files Keys name = (key : Option KeyText) × KeysSay limits (bytes_of files name) (Ok key)
+IsAccepted limits files Keys name = (keys : List KeyShape) × KeysSay limits (bytes_of files name) (Ok keys)
 
 -- it is refused so
 abbrev pub IsRefusedSo : Limits → NamedFiles → File → List ℕ → Refusal → Type 0

@@ -3,7 +3,7 @@ use Rattle.std.specs.Prelude.{List, [], ℕ, ◌≡◌, ◌⊎◌, ◌≤◌, �
 use Rattle.gk_base.specs.declared.limits.Limits.{Limits}
 use Rattle.gk_base.specs.declared.term.Triple.{Triple}
 use Rattle.gk_io.specs.Files.{bytes_of}
-use Rattle.plain_files.specs.KeyText.{KeyText}
+use Rattle.key_file.specs.KeyShape.{KeyShape}
 use Rattle.gkey_cmd.specs.Commands.{Wanted, Matching, files_of}
 use Rattle.gkey_cmd.specs.Reading.{NamedFiles, GraphSays, KeysSay, Refusal, MorePairsThan, refused_text, AllAccepted, FirstRefused}
 use Rattle.gkey_cmd.specs.Matched.{IsReport, HasTooManyPairs}
@@ -39,14 +39,14 @@ pub record AreWithin (limits : Limits) : Type 0 where
 -- the accepted files of a command lead to more candidate pairs than the limit
 abbrev pub HasMorePairs : Limits → NamedFiles → Wanted → Type 0
 HasMorePairs limits files (Matching graph keys) =
-    (triples : List Triple) × (key : Option KeyText) × GraphSays limits (bytes_of files graph) (Ok triples)
-    × KeysSay limits (bytes_of files keys) (Ok key) × HasTooManyPairs triples key limits.pairs
+    (triples : List Triple) × (key_list : List KeyShape) × GraphSays limits (bytes_of files graph) (Ok triples)
+    × KeysSay limits (bytes_of files keys) (Ok key_list) × HasTooManyPairs triples key_list limits.pairs
 
 -- the answer of a command whose files are accepted and lead to no more pairs than the limit, and its output
 abbrev pub Answers : Limits → NamedFiles → Wanted → Answer → List ℕ → Type 0
 Answers limits files (Matching graph keys) Given output =
-    (triples : List Triple) × (key : Option KeyText) × GraphSays limits (bytes_of files graph) (Ok triples)
-    × KeysSay limits (bytes_of files keys) (Ok key) × IsReport triples key output
+    (triples : List Triple) × (key_list : List KeyShape) × GraphSays limits (bytes_of files graph) (Ok triples)
+    × KeysSay limits (bytes_of files keys) (Ok key_list) × IsReport triples key_list output
 
 -- The words ask for a command, and it is refused so: by the first of its files that is not accepted, or, where all are,
 -- by too many pairs.

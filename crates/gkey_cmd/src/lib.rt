@@ -5,6 +5,7 @@
 //! - `words`: the commands and the words that ask for them
 //! - `file`: the files that a command reads
 //! - `load`: a file's bytes
+//! - `pieces`: a graph's triples, read piece by piece
 //! - `reading`: what a file says, or why it is refused
 //! - `numbering`: names, rows and patterns in numbers
 //! - `matched`: what `match` prints
@@ -17,6 +18,7 @@ mod file;
 mod load;
 mod matched;
 mod numbering;
+mod pieces;
 mod reading;
 mod top;
 mod words;

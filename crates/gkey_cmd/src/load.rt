@@ -1,6 +1,6 @@
-//! A file's bytes.
+//! Files, and a file's bytes.
 
-ghost use Rattle.std.specs.Prelude.{◌≡◌, ◌<◌, ◌≤◌, ◌+◌, ◌-◌, ◌^◌, ◌++◌, ◌↔◌, [], Some, take, length, vec_len, IfOk, IfSome, IsSomeAnd, IsErrOf, IsTrue};
+ghost use Rattle.std.specs.Prelude.{◌≡◌, ◌<◌, ◌≤◌, ◌+◌, ◌-◌, ◌^◌, ◌++◌, ◌↔◌, [], Some, take, length, vec_len, IfOk, OnOk, IfSome, IsSomeAnd, IsErrOf, IsTrue};
 ghost use Rattle.gk_io.specs.Cause.{Rose};
 ghost use Rattle.gk_io.specs.Files.{bytes_of};
 
@@ -50,9 +50,26 @@ impl From<Failed> for LoadStop {
 
 /// A buffer for one read.
 fn buffer(alloc: Global) -> Result<Vec<u8>, AllocError>
-    ensures { IfOk result (λ v. 0 < vec_len v) }
+    ensures some { IfOk result (λ v. 0 < vec_len v) }
+    ensures few { IfOk result (λ v. vec_len v ≤ 65536) }
 {
     vec![in alloc; 0u8; PIECE]
+}
+
+/// Finds a file, and gives the buffer to read it through.
+pub fn open<S: Shelf>(alloc: Global, shelf: &mut S, name: &Text) -> Result<Vec<u8>, LoadStop>
+    ensures held { S.held shelf.new ≡ S.held shelf.old }
+    ensures some { IfOk result (λ v. 0 < vec_len v) }
+    ensures few { IfOk result (λ v. vec_len v ≤ 65536) }
+    ensures asked { OnOk result (S.asked shelf.new ≡ Some name.now) }
+    ensures found { OnOk result (IfSome (S.held shelf.old) (λ files. S.rest shelf.new ≡ Some (bytes_of files name.now))) }
+    ensures failed { IsErrOf result LoadStop.Failed →
+        Rose (S.faults shelf.old) (S.faults shelf.new) × (S.asked shelf.new ≡ Some name.now) × IsTrue (S.bad shelf.new) }
+    ensures count { ¬ (IsErrOf result LoadStop.Failed) → S.faults shelf.new ≡ S.faults shelf.old }
+{
+    let buf = buffer(alloc)?;
+    shelf.find(name.copy()?)?;
+    Ok(buf)
 }
 
 /// Reads some bytes through the buffer, and none only at the end.
@@ -91,8 +108,7 @@ pub fn load<S: Shelf>(
         Rose (S.faults shelf.old) (S.faults shelf.new) × (S.asked shelf.new ≡ Some name.now) × IsTrue (S.bad shelf.new) }
     ensures count { ¬ (IsErrOf result LoadStop.Failed) → S.faults shelf.new ≡ S.faults shelf.old }
 {
-    let mut buf = buffer(alloc)?;
-    shelf.find(name.copy()?)?;
+    let mut buf = open(alloc, shelf, name)?;
     let mut bytes = Vec::new(alloc);
     let mut room = limit as usize + 1;
     while room > 0 {

@@ -1,7 +1,6 @@
 //! What `match` prints.
 
-ghost use Rattle.std.specs.Prelude.{◌≡◌, ◌≤◌, ◌<◌, ◌^◌, ◌-◌, length, IfOk, IfErr, IfSome, OnOk};
-ghost use Rattle.plain_files.specs.PlainKeyFacts.{IsPlainKey};
+ghost use Rattle.std.specs.Prelude.{◌≡◌, ◌≤◌, ◌<◌, ◌^◌, ◌-◌, length, IfOk, IfErr, OnOk};
 ghost use Rattle.gkey_cmd.specs.Matched.{IsReport, HasTooManyPairs};
 ghost use Rattle.gkey_cmd.specs.Reading.{MorePairsThan, refused_text};
 ghost use Rattle.gkey_cmd.specs.Stops.{IsRightMatchStop, MatchEnds};
@@ -9,9 +8,9 @@ ghost use Rattle.gkey_cmd.specs.Stops.{IsRightMatchStop, MatchEnds};
 use crate::ending::Ending;
 use crate::numbering::number;
 use gk_base::{NoMemory, Triple};
+use key_lang::KeyFile;
 use match_run::classes;
 use pair_seed::SeedStop;
-use plain_files::PlainKey;
 use std::alloc::Global;
 use term_text::report;
 
@@ -21,18 +20,17 @@ use term_text::report;
 fn report_of(
     alloc: Global,
     triples: Vec<Triple>,
-    key: &Option<PlainKey>,
+    keys: &KeyFile,
     limit: u64,
 ) -> Result<Vec<u8>, SeedStop>
-    requires few { length triples.items ≤ 2 ^ 29 }
-    requires plain { IfSome key.now IsPlainKey }
+    requires few { length triples.items ≤ 2 ^ 22 }
     requires limit { limit < 2 ^ 32 }
-    ensures report { IfOk result (λ text. IsReport triples.items key.now text.items) }
-    ensures no_more { OnOk result (¬ (HasTooManyPairs triples.items key.now limit)) }
-    ensures stop { IfErr result (IsRightMatchStop triples.items key.now limit) }
+    ensures report { IfOk result (λ text. IsReport triples.items keys.now text.items) }
+    ensures no_more { OnOk result (¬ (HasTooManyPairs triples.items keys.now limit)) }
+    ensures stop { IfErr result (IsRightMatchStop triples.items keys.now limit) }
 {
-    let numbered = number(alloc, triples, key)?;
-    let labels = classes(alloc, &numbered.graph, &numbered.patterns, limit)?;
+    let numbered = number(alloc, triples, keys)?;
+    let labels = classes(alloc, numbered.graph, numbered.patterns, limit)?;
     let report = report(alloc, &numbered.names, &labels)?;
     Ok(report.into_vec())
 }
@@ -51,15 +49,14 @@ fn pairs_text(alloc: Global, limit: u64) -> Result<Vec<u8>, NoMemory>
 pub fn match_files(
     alloc: Global,
     triples: Vec<Triple>,
-    key: &Option<PlainKey>,
+    keys: &KeyFile,
     limit: u64,
 ) -> Result<Vec<u8>, Ending>
-    requires few { length triples.items ≤ 2 ^ 29 }
-    requires plain { IfSome key.now IsPlainKey }
+    requires few { length triples.items ≤ 2 ^ 22 }
     requires limit { limit < 2 ^ 32 }
-    ensures { MatchEnds triples.items key.now limit result }
+    ensures { MatchEnds triples.items keys.now limit result }
 {
-    match report_of(alloc, triples, key, limit) {
+    match report_of(alloc, triples, keys, limit) {
         Ok(text) => Ok(text),
         Err(SeedStop::NoMemory) => Err(Ending::NoMemory),
         Err(SeedStop::TooManyPairs { .. }) => match pairs_text(alloc, limit) {

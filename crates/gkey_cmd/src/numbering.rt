@@ -1,15 +1,14 @@
 //! A graph and its keys in numbers.
 
-ghost use Rattle.std.specs.Prelude.{◌≡◌, ◌<◌, ◌≤◌, ◌+◌, ◌-◌, ◌*◌, ◌^◌, [], map, length, IfOk, IfSome, OnOk};
+ghost use Rattle.std.specs.Prelude.{◌≡◌, ◌<◌, ◌≤◌, ◌+◌, ◌-◌, ◌*◌, ◌^◌, [], map, length, IfOk, OnOk};
 ghost use Rattle.gk_base.specs.Term.{is_literal};
 ghost use Rattle.term_table.specs.Numbering.{with_terms, names_of};
-ghost use Rattle.plain_files.specs.PlainKeyFacts.{IsPlainKey};
-ghost use Rattle.plain_files.specs.Compile.{patterns_of};
+ghost use Rattle.key_file.specs.Compile.{patterns_of};
 ghost use Rattle.gkey_cmd.specs.Numbered.{triple_terms, terms_of, names_for, row_of, type_number, graph_of, AreSameGraph};
 
 use chase_laws::Pattern;
 use gk_base::{NoMemory, Term, Text, Triple};
-use plain_files::{PlainKey, compile};
+use key_lang::{KeyFile, compile};
 use std::alloc::Global;
 use term_table::Names;
 use typed_graph::Graph;
@@ -44,7 +43,7 @@ fn rows_of(
     names: &mut Names,
 ) -> Result<Vec<[u32; 3]>, NoMemory>
     requires empty { names.old ≡ [] }
-    requires few { length triples.items ≤ 2 ^ 29 }
+    requires few { length triples.items ≤ 2 ^ 22 }
     ensures names { OnOk result (names.new ≡ names_of (terms_of triples.items)) }
     ensures rows { IfOk result (λ rows. rows.items ≡ map (row_of names.new) triples.items) }
 {
@@ -76,21 +75,18 @@ fn type_number(alloc: Global, names: &Names) -> Result<Option<u32>, NoMemory>
     Ok(names.find(&rdf_type))
 }
 
-/// The graph of these triples and the key's pattern, in numbers.
-pub fn number(
-    alloc: Global,
-    triples: Vec<Triple>,
-    key: &Option<PlainKey>,
-) -> Result<Numbered, NoMemory>
-    requires few { length triples.items ≤ 2 ^ 29 }
-    requires plain { IfSome key.now IsPlainKey }
-    ensures names { IfOk result (λ n. n.names ≡ names_for triples.items key.now) }
+/// The graph of these triples and the keys' patterns, in numbers.
+pub fn number(alloc: Global, triples: Vec<Triple>, keys: &KeyFile) -> Result<Numbered, NoMemory>
+    requires few { length triples.items ≤ 2 ^ 22 }
+    ensures names { IfOk result (λ n. n.names ≡ names_for triples.items keys.now) }
     ensures graph { IfOk result (λ n. AreSameGraph n.graph (graph_of n.names triples.items)) }
-    ensures patterns { IfOk result (λ n. n.patterns.items ≡ patterns_of n.names key.now) }
+    ensures patterns { IfOk result (λ n. n.patterns.items ≡ patterns_of n.names keys.now) }
+    ensures few_patterns { IfOk result (λ n. length n.patterns.items < 2 ^ 32) }
 {
     let mut names = Names::new(alloc);
     let rows = rows_of(alloc, triples, &mut names)?;
-    let patterns = compile(alloc, key, &mut names)?;
+    let _ = keys.keys();
+    let patterns = compile(alloc, keys, &mut names)?;
     let literal = literal_flags(alloc, &names)?;
     let rdf_type = type_number(alloc, &names)?;
     let alike = names.alike()?;

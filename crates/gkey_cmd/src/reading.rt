@@ -1,8 +1,7 @@
 //! What the files of a command say.
 
-ghost use Rattle.std.specs.Prelude.{◌≡◌, ◌≤◌, ◌^◌, length, IfOk, Ok, Err, IfSome, vec_items, Some};
+ghost use Rattle.std.specs.Prelude.{◌≡◌, ◌≤◌, ◌^◌, length, IfOk, Ok, Err, vec_items, Some};
 ghost use Rattle.gk_io.specs.Files.{bytes_of};
-ghost use Rattle.plain_files.specs.PlainKeyFacts.{IsPlainKey};
 ghost use Rattle.gkey_cmd.specs.Reading.{InGraph, InKeys, line_text, GraphSays, KeysSay};
 ghost use Rattle.gkey_cmd.specs.Written.{AreWithin};
 ghost use Rattle.gkey_cmd.specs.Causes.{ReadBy};
@@ -10,9 +9,10 @@ ghost use Rattle.gkey_cmd.specs.Causes.{ReadBy};
 use crate::ending::Ending;
 use crate::file::File;
 use crate::load::{LoadStop, load};
+use crate::pieces::{GraphStop, read_triples};
 use gk_base::{Limits, NoMemory, ReadStop, Text, Triple};
 use gk_io::Shelf;
-use plain_files::{KeyStop, PlainKey, read_plain_graph, read_plain_keys};
+use key_lang::{KeyFile, KeyStop};
 use std::alloc::Global;
 
 /// The error text of a refused line.
@@ -39,17 +39,13 @@ pub fn read_graph<S: Shelf>(
     ensures held { S.held shelf.new ≡ S.held shelf.old }
     ensures cases { ReadBy S.Shelf shelf.old shelf.new File.Graph name.now limits.now
         (λ files triples. GraphSays limits.now (bytes_of files name.now) (Ok (vec_items triples))) result }
-    ensures few { IfOk result (λ triples. length triples.items ≤ 2 ^ 29) }
+    ensures few { IfOk result (λ triples. length triples.items ≤ 2 ^ 22) }
 {
-    let bytes = match load(alloc, shelf, name, limits.bytes) {
-        Ok(bytes) => bytes,
-        Err(LoadStop::Failed) => return Err(Ending::Failed(File::Graph)),
-        Err(LoadStop::NoMemory) => return Err(Ending::NoMemory),
-    };
-    match read_plain_graph(alloc, &bytes, limits.bytes) {
+    match read_triples(alloc, shelf, name, limits) {
         Ok(triples) => Ok(triples),
-        Err(ReadStop::NoMemory) => Err(Ending::NoMemory),
-        Err(ReadStop::Refused(refusal)) => {
+        Err(GraphStop::Failed) => Err(Ending::Failed(File::Graph)),
+        Err(GraphStop::Stopped(ReadStop::NoMemory)) => Err(Ending::NoMemory),
+        Err(GraphStop::Stopped(ReadStop::Refused(refusal))) => {
             match line_text(alloc, File::Graph, refusal.line, refusal.fault.text()) {
                 Ok(text) => Err(Ending::Refused(text)),
                 Err(NoMemory) => Err(Ending::NoMemory),
@@ -58,26 +54,25 @@ pub fn read_graph<S: Shelf>(
     }
 }
 
-/// The key of the key file, or the ending of a run that can't have it.
+/// The keys of the key file, or the ending of a run that can't have them.
 pub fn read_keys<S: Shelf>(
     alloc: Global,
     shelf: &mut S,
     name: &Text,
     limits: &Limits,
-) -> Result<Option<PlainKey>, Ending>
+) -> Result<KeyFile, Ending>
     requires { AreWithin limits.now }
     ensures held { S.held shelf.new ≡ S.held shelf.old }
     ensures cases { ReadBy S.Shelf shelf.old shelf.new File.Keys name.now limits.now
-        (λ files key. KeysSay limits.now (bytes_of files name.now) (Ok key)) result }
-    ensures plain { IfOk result (λ key. IfSome key IsPlainKey) }
+        (λ files keys. KeysSay limits.now (bytes_of files name.now) (Ok keys)) result }
 {
     let bytes = match load(alloc, shelf, name, limits.key_bytes) {
         Ok(bytes) => bytes,
         Err(LoadStop::Failed) => return Err(Ending::Failed(File::Keys)),
         Err(LoadStop::NoMemory) => return Err(Ending::NoMemory),
     };
-    match read_plain_keys(alloc, &bytes, limits.key_bytes) {
-        Ok(key) => Ok(key),
+    match key_lang::read_keys(alloc, &bytes, limits.key_bytes) {
+        Ok(keys) => Ok(keys),
         Err(KeyStop::NoMemory) => Err(Ending::NoMemory),
         Err(KeyStop::Refused(refusal)) => {
             match line_text(alloc, File::Keys, refusal.line, refusal.fault.text()) {

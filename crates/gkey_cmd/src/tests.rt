@@ -1,5 +1,8 @@
 //! Whole runs over files in memory.
 
+mod graphs;
+mod keys;
+
 use crate::{run, run_with};
 use gk_base::{Limits, Text};
 use gk_io::{MemShelf, MemSink, SureShelf, SureSink};
@@ -7,7 +10,7 @@ use std::sync::Wait;
 use std::test::Fail;
 use std::thread::Threads;
 
-const ALBUMS: &str = "\
+const ALBUMS: &[u8] = b"\
 <urn:al1> <http://www.w3.org/1999/02/22-rdf-syntax-ns#type> <urn:Album> .
 <urn:al2> <http://www.w3.org/1999/02/22-rdf-syntax-ns#type> <urn:Album> .
 <urn:al1> <urn:name> \"Anthology 2\" .
@@ -25,7 +28,7 @@ value $y
 end
 ";
 
-const TWO_TYPES: &str = "\
+const TWO_TYPES: &[u8] = b"\
 <urn:f> <http://www.w3.org/1999/02/22-rdf-syntax-ns#type> <urn:D> .
 <urn:f> <http://www.w3.org/1999/02/22-rdf-syntax-ns#type> <urn:T> .
 <urn:g> <http://www.w3.org/1999/02/22-rdf-syntax-ns#type> <urn:T> .
@@ -49,7 +52,7 @@ value $v
 end
 ";
 
-const ORDERED: &str = "\
+const ORDERED: &[u8] = b"\
 <urn:b> <http://www.w3.org/1999/02/22-rdf-syntax-ns#type> <urn:T> .
 <urn:a> <http://www.w3.org/1999/02/22-rdf-syntax-ns#type> <urn:T> .
 <urn:a:1> <http://www.w3.org/1999/02/22-rdf-syntax-ns#type> <urn:T> .
@@ -58,7 +61,7 @@ const ORDERED: &str = "\
 <urn:a:1> <urn:p> \"1\" .
 ";
 
-const TWO_CLASSES: &str = "\
+const TWO_CLASSES: &[u8] = b"\
 <urn:c> <http://www.w3.org/1999/02/22-rdf-syntax-ns#type> <urn:T> .
 <urn:b> <http://www.w3.org/1999/02/22-rdf-syntax-ns#type> <urn:T> .
 <urn:a> <http://www.w3.org/1999/02/22-rdf-syntax-ns#type> <urn:T> .
@@ -71,17 +74,11 @@ const TWO_CLASSES: &str = "\
 <urn:d> <urn:p> \"3\" .
 ";
 
-const RELATIVE: &str = "\
-<urn:al1> <http://www.w3.org/1999/02/22-rdf-syntax-ns#type> <urn:Album> .
-<urn:al2> <http://www.w3.org/1999/02/22-rdf-syntax-ns#type> <urn:Album> .
-<a> <urn:p> \"x\" .
-";
-
 /// A run over the files `g` and `k`, the calls that fail, and what it must leave.
 #[derive(Clone, Copy)]
 struct Case<'a> {
     words: &'a [&'a str],
-    graph: &'a str,
+    graph: &'a [u8],
     keys: &'a str,
     reads: &'a [u64],
     writes: &'a [u64],
@@ -127,7 +124,7 @@ fn holds<R: AllocGlobal + Threads + Wait + Sync>(rt: &R, case: &Case<'_>) -> Res
         words.push(text(rt, word)?)?;
     }
     let mut files = Vec::new(rt.alloc());
-    files.push((text(rt, "g")?, case.graph.as_bytes().to_vec(rt.alloc())?))?;
+    files.push((text(rt, "g")?, case.graph.to_vec(rt.alloc())?))?;
     files.push((text(rt, "k")?, case.keys.as_bytes().to_vec(rt.alloc())?))?;
     let mut shelf = MemShelf::new(files, case.most, case.reads.to_vec(rt.alloc())?);
     let mut out = MemSink::new(rt.alloc(), case.most, 100, case.writes.to_vec(rt.alloc())?)?;
@@ -148,7 +145,7 @@ fn holds<R: AllocGlobal + Threads + Wait + Sync>(rt: &R, case: &Case<'_>) -> Res
 fn matches_print_their_classes(rt: HostRuntime) -> Result<(), Fail> {
     let answered = [
         (ALBUMS, ALBUM_KEY, "<urn:al1> <urn:al2>\n"),
-        ("", ALBUM_KEY, ""),
+        (b"", ALBUM_KEY, ""),
         (ALBUMS, "", ""),
         (ALBUMS, ONE_VALUE, ""),
         (TWO_TYPES, ONE_VALUE, "<urn:f> <urn:g>\n"),
@@ -175,37 +172,6 @@ fn matches_print_their_classes(rt: HostRuntime) -> Result<(), Fail> {
 }
 
 #[test]
-fn refusals_name_their_first_line(rt: HostRuntime) -> Result<(), Fail> {
-    let refused = [
-        (RELATIVE, ALBUM_KEY, "graph:3: not built\n"),
-        (RELATIVE, "# none\n", "graph:3: not built\n"),
-        (ALBUMS, "# none\n", "keys:1: not built\n"),
-        (ALBUMS, "key k <urn:T>\nvalue $v\n", "keys:2: not built\n"),
-    ];
-    for (row, (graph, keys, err)) in refused.into_iter().enumerate() {
-        let case = Case {
-            graph,
-            keys,
-            status: 2,
-            out: b"",
-            err,
-            ..GOOD
-        };
-        assert!(rt; holds(&rt, &case)?, "row {row}");
-    }
-    let no_keys = Case {
-        words: &["match", "g", "none"],
-        graph: RELATIVE,
-        status: 2,
-        out: b"",
-        err: "graph:3: not built\n",
-        ..GOOD
-    };
-    assert!(rt; holds(&rt, &no_keys)?);
-    Ok(())
-}
-
-#[test]
 fn limits_refuse_what_is_beyond_them(rt: HostRuntime) -> Result<(), Fail> {
     let standard = Limits::STANDARD;
     let limited = [
@@ -215,6 +181,13 @@ fn limits_refuse_what_is_beyond_them(rt: HostRuntime) -> Result<(), Fail> {
                 ..standard
             },
             "graph:1: file too long\n",
+        ),
+        (
+            Limits {
+                triples: 5,
+                ..standard
+            },
+            "graph:6: too many triples\n",
         ),
         (
             Limits {
@@ -322,31 +295,38 @@ fn failed_writes_leave_a_front(rt: HostRuntime) -> Result<(), Fail> {
     Ok(())
 }
 
+/// Words that ask for no command.
+static NO_COMMAND: [&'static [&'static str]; 7] = [
+    &[],
+    &["match", "g"],
+    &["match", "g", "k", "k"],
+    &["matched", "g", "k"],
+    &["demo", "0"],
+    &["match", "--workers", "65", "g", "k"],
+    &["match", "--workers", "04", "g", "k"],
+];
+
 #[test]
 fn other_words_ask_for_no_command(rt: HostRuntime) -> Result<(), Fail> {
-    let none = Case {
-        words: &[],
-        status: 64,
+    for (row, words) in NO_COMMAND.iter().enumerate() {
+        let case = Case {
+            words,
+            status: 64,
+            out: b"",
+            err: "usage:\n  gkey match GRAPH KEYS\n",
+            ..GOOD
+        };
+        assert!(rt; holds(&rt, &case)?, "row {row}");
+    }
+    // A word that begins with a dash is a name as any other.
+    let dashes = Case {
+        words: &["match", "--workers", "4"],
+        status: 3,
         out: b"",
-        err: "usage:\n  gkey match GRAPH KEYS\n",
+        err: "graph: read failed\n",
         ..GOOD
     };
-    assert!(rt; holds(&rt, &none)?);
-    let few = Case {
-        words: &["match", "g"],
-        ..none
-    };
-    assert!(rt; holds(&rt, &few)?);
-    let many = Case {
-        words: &["match", "g", "k", "k"],
-        ..none
-    };
-    assert!(rt; holds(&rt, &many)?);
-    let other = Case {
-        words: &["matched", "g", "k"],
-        ..none
-    };
-    assert!(rt; holds(&rt, &other)?);
+    assert!(rt; holds(&rt, &dashes)?);
     Ok(())
 }
 
@@ -357,7 +337,7 @@ fn albums_match_over_devices_that_do_not_fail(rt: HostRuntime) -> Result<(), Fai
         words.push(text(&rt, word)?)?;
     }
     let mut files = Vec::new(rt.alloc());
-    files.push((text(&rt, "g")?, ALBUMS.as_bytes().to_vec(rt.alloc())?))?;
+    files.push((text(&rt, "g")?, ALBUMS.to_vec(rt.alloc())?))?;
     files.push((text(&rt, "k")?, ALBUM_KEY.as_bytes().to_vec(rt.alloc())?))?;
     let mut shelf = SureShelf::new(files);
     let mut out = SureSink::new(rt.alloc(), 100)?;

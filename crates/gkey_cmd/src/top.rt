@@ -8,6 +8,7 @@ ghost use Rattle.gkey_cmd.specs.declared.ending.Answer.{Answer as AnyAnswer};
 ghost use Rattle.gkey_cmd.specs.Commands.{Wanted, Matching, wanted};
 ghost use Rattle.gkey_cmd.specs.Files.{read_failed};
 ghost use Rattle.gkey_cmd.specs.Reading.{Refusal, refused_text};
+ghost use Rattle.gkey_cmd.specs.Pieces.{StopsReading};
 ghost use Rattle.gkey_cmd.specs.Sent.{TookAll, TookLess, Sent};
 ghost use Rattle.gkey_cmd.specs.Written.{usage, out_of_memory, write_failed, status_of, IsAnswer, AreWithin, IsRefused, AreAccepted, IsAnswered, Written};
 ghost use Rattle.gkey_cmd.specs.Causes.{HasFailed, Stopped, Caused};
@@ -35,8 +36,8 @@ fn matched<S: Shelf>(
         MatchResult result (λ text. Stops (Ending.Done Answer.Given text)) Stops }
 {
     let triples = read_graph(alloc, shelf, graph, limits)?;
-    let key = read_keys(alloc, shelf, keys, limits)?;
-    match_files(alloc, triples, &key, limits.pairs)
+    let read = read_keys(alloc, shelf, keys, limits)?;
+    match_files(alloc, triples, &read, limits.pairs)
 }
 
 /// How a run ends before anything is written.
@@ -89,6 +90,12 @@ pub fn run_with<Rt: Threads + Wait + Sync, S: Shelf, O: Sink, E: Sink>(
     // 2: the text names the refusal, and it is so of the files where they are told.
     ensures refused { result ≡ 2 → (refusal : Refusal) × Sent E.Sink err.old err.new (refused_text refusal)
         × IfSome (S.held shelf.old) (λ files. IsRefused (wanted words.now) files limits.now refusal) }
+
+    // Where the refusal is one of the graph, the graph was asked for last, and of its bytes fewer than 65,536 are read
+    // beyond the one at which it is refused.
+    ensures stops_reading { result ≡ 2 → (refusal : Refusal) × Sent E.Sink err.old err.new (refused_text refusal)
+        × IfSome (S.held shelf.old) (λ files. IsRefused (wanted words.now) files limits.now refusal)
+        × StopsReading S.Shelf shelf.old shelf.new (wanted words.now) limits.now refusal }
 
     // 3: the shelf failed at the file that the text names; at no other status did it fail.
     ensures unread { result ≡ 3 → (file : AnyFile) × (command : Wanted) × (wanted words.now ≡ Some command)
@@ -151,6 +158,12 @@ pub fn run<Rt: Threads + Wait + Sync, S: Shelf, O: Sink, E: Sink>(
     // 2: the text names the refusal, and it is so of the files where they are told.
     ensures refused { result ≡ 2 → (refusal : Refusal) × Sent E.Sink err.old err.new (refused_text refusal)
         × IfSome (S.held shelf.old) (λ files. IsRefused (wanted words.now) files Limits.STANDARD refusal) }
+
+    // Where the refusal is one of the graph, the graph was asked for last, and of its bytes fewer than 65,536 are read
+    // beyond the one at which it is refused.
+    ensures stops_reading { result ≡ 2 → (refusal : Refusal) × Sent E.Sink err.old err.new (refused_text refusal)
+        × IfSome (S.held shelf.old) (λ files. IsRefused (wanted words.now) files Limits.STANDARD refusal)
+        × StopsReading S.Shelf shelf.old shelf.new (wanted words.now) Limits.STANDARD refusal }
 
     // 3: the shelf failed at the file that the text names; at no other status did it fail.
     ensures unread { result ≡ 3 → (file : AnyFile) × (command : Wanted) × (wanted words.now ≡ Some command)

@@ -1,15 +1,19 @@
-//! Preparation and chase, on one thread: from a graph and patterns in numbers to one label for each name, equal exactly
-//! where the chase makes two names the same. It searches the candidate pairs alone, turn by turn, and enters what it
-//! finds into a book of classes, until a whole turn finds nothing.
+//! A whole chase: from a graph and keys to the classes of equal names. `prepare` finds the candidate pairs and makes what
+//! a chase works on, `chase_alone` runs a chase to its end on one thread, and `classes` does both. What the classes are
+//! is said in `specs/`, by the chase's definitions alone.
 //!
-//! - `turns`: one pair, and one turn over all pairs
-//! - `chase`: the classes
+//! - `preparing`: what a chase needs before it runs
+//! - `alone`: a chase on one thread
+//! - `whole`: the labels of a whole chase
 #![tactic(auto)]
 
-mod chase;
-mod turns;
+mod alone;
+mod preparing;
+mod whole;
 
-pub use chase::classes;
+pub use alone::chase_alone;
+pub use preparing::{Prepared, prepare};
+pub use whole::classes;
 
 #[cfg(test)]
 mod tests;

@@ -1,6 +1,6 @@
-ghost use Rattle.std.specs.Prelude.{◌<◌, ◌^◌, length};
+ghost use Rattle.std.specs.Prelude.{◌≡◌, ◌<◌, ◌^◌, length, IfOk};
 
-use crate::classes;
+use crate::{classes, prepare};
 use chase_laws::{Edge, Pattern, Slot};
 use gk_base::NoMemory;
 use pair_seed::SeedStop;
@@ -32,13 +32,17 @@ const ALBUMS: [[u32; 3]; 18] = [
     [9, 11, 14],
 ];
 
-fn albums(rt: &impl Abort, alloc: Global) -> Result<Graph, Fail> {
+/// The graph of these rows, which may come in reverse order.
+fn albums(rt: &impl Abort, alloc: Global, reversed: bool) -> Result<Graph, Fail> {
     let literal = [
         false, false, false, false, false, true, false, true, false, false, true, false, false,
         false, false, true,
     ];
     let alike = [0, 1, 2, 3, 4, 5, 6, 7, 8, 9, 10, 11, 12, 13, 14, 15];
-    let rows = ALBUMS.to_vec(alloc)?;
+    let mut rows = ALBUMS.to_vec(alloc)?;
+    if reversed {
+        rows.reverse();
+    }
     assert!(rt; can_build(&rows, 16, &literal, Some(1), &alike));
     Ok(Graph::build(
         alloc,
@@ -125,13 +129,13 @@ fn are_labels(labels: &[u32], wanted: &[u32]) -> bool {
 /// Whether the classes of a match are these.
 fn are_classes(
     alloc: Global,
-    graph: &Graph,
-    patterns: &[Pattern],
+    graph: Graph,
+    patterns: Vec<Pattern>,
     limit: u64,
     wanted: &[u32],
 ) -> bool
     requires limit { limit < 2 ^ 32 }
-    requires few { length patterns.now < 2 ^ 32 }
+    requires few { length patterns.items < 2 ^ 32 }
 {
     match classes(alloc, graph, patterns, limit) {
         Ok(labels) => are_labels(&labels, wanted),
@@ -139,46 +143,73 @@ fn are_classes(
     }
 }
 
-/// How many pairs are told where there are too many.
-fn too_many(alloc: Global, graph: &Graph, patterns: &[Pattern], limit: u64) -> Option<u64>
+/// How many candidate pairs there are, or how many are told where there are too many.
+fn seeded(alloc: Global, graph: Graph, patterns: Vec<Pattern>, limit: u64) -> Result<u64, u64>
     requires limit { limit < 2 ^ 32 }
-    requires few { length patterns.now < 2 ^ 32 }
+    requires few { length patterns.items < 2 ^ 32 }
 {
-    match classes(alloc, graph, patterns, limit) {
-        Err(SeedStop::TooManyPairs { found }) => Some(found),
-        _ => None,
+    match prepare(alloc, graph, patterns, limit) {
+        Ok(prepared) => Ok(prepared.seeded),
+        Err(SeedStop::TooManyPairs { found }) => Err(found),
+        Err(SeedStop::NoMemory) => Err(0),
     }
 }
 
 const ALONE: [u32; 16] = [0, 1, 2, 3, 4, 5, 6, 7, 8, 9, 10, 11, 12, 13, 14, 15];
 
+fn all_keys(alloc: Global) -> Result<Vec<Pattern>, NoMemory>
+    ensures { IfOk result (λ keys. length keys.items ≡ 3) }
+{
+    Ok(vec![in alloc; artist(alloc)?, album_by(alloc)?, album_year(alloc)?]?)
+}
+
 #[test]
-fn keys_support_one_another(rt: HostRuntime) -> Result<(), Fail> {
+fn keys_support_one_another_in_any_order_of_rows(rt: HostRuntime) -> Result<(), Fail> {
     let alloc = rt.alloc();
-    let graph = albums(&rt, alloc)?;
-    let keys = vec![in alloc; artist(alloc)?, album_by(alloc)?, album_year(alloc)?]?;
     let wanted = [0, 1, 2, 0, 4, 5, 6, 7, 8, 8, 10, 11, 12, 13, 13, 15];
-    assert!(rt; are_classes(alloc, &graph, &keys, 3, &wanted));
-    assert!(rt; too_many(alloc, &graph, &keys, 2) == Some(3));
+    for reversed in [false, true] {
+        let graph = albums(&rt, alloc, reversed)?;
+        let keys = all_keys(alloc)?;
+        assert!(rt;
+            are_classes(alloc, graph, keys, 3, &wanted),
+            "reversed: {reversed}"
+        );
+    }
+    Ok(())
+}
+
+#[test]
+fn candidate_pairs_are_counted_against_the_limit(rt: HostRuntime) -> Result<(), Fail> {
+    let alloc = rt.alloc();
+    for (limit, wanted) in [(4, Ok(3)), (3, Ok(3)), (2, Err(3)), (0, Err(1))] {
+        let graph = albums(&rt, alloc, false)?;
+        let keys = all_keys(alloc)?;
+        assert!(rt; limit < 10);
+        assert!(rt;
+            seeded(alloc, graph, keys, limit) == wanted,
+            "limit {limit}"
+        );
+    }
     Ok(())
 }
 
 #[test]
 fn pairs_that_only_support_each_other_stay_apart(rt: HostRuntime) -> Result<(), Fail> {
     let alloc = rt.alloc();
-    let graph = albums(&rt, alloc)?;
+    let graph = albums(&rt, alloc, false)?;
     let keys = vec![in alloc; artist(alloc)?, album_by(alloc)?]?;
-    assert!(rt; are_classes(alloc, &graph, &keys, 3, &ALONE));
+    assert!(rt; are_classes(alloc, graph, keys, 3, &ALONE));
     Ok(())
 }
 
 #[test]
 fn one_key_finds_its_own_pair(rt: HostRuntime) -> Result<(), Fail> {
     let alloc = rt.alloc();
-    let graph = albums(&rt, alloc)?;
+    let graph = albums(&rt, alloc, false)?;
     let key = vec![in alloc; album_year(alloc)?]?;
     let wanted = [0, 1, 2, 0, 4, 5, 6, 7, 8, 9, 10, 11, 12, 13, 14, 15];
-    assert!(rt; are_classes(alloc, &graph, &key, 1, &wanted));
-    assert!(rt; are_classes(alloc, &graph, &[], 0, &ALONE));
+    assert!(rt; are_classes(alloc, graph, key, 1, &wanted));
+    let graph = albums(&rt, alloc, false)?;
+    assert!(rt; are_classes(alloc, graph, Vec::new(alloc), 0, &ALONE));
     Ok(())
 }

@@ -1,16 +1,16 @@
 -- The parts fit together.
 use Rattle.std.proofs.Common.{[], length, sym, ◌∙◌, ap, subst, arith}
 use Rattle.term_table.proofs.NumberingLemmas.{length-with_terms}
-use Rattle.plain_files.specs.Compile.{key_terms}
-use Rattle.plain_files.proofs.CompileLemmas.{few_terms}
+use Rattle.key_file.specs.Compile.{key_terms}
 use Rattle.gkey_cmd.proofs.Rows.{AreNamed, few_names, all_named, rows_within, type_within, folding_of, numbered}
+use Rattle.gkey_cmd.proofs.Reports.{few_patterns}
 use Rattle.gkey_cmd.proofs.numbering.number.Goals as goal
 
-pub compile-requires-clause-room : goal.compile-requires-clause-room
-compile-requires-clause-room c =
+pub compile-requires : goal.compile-requires
+compile-requires c =
     let e = ap length c.in_ok-rows.ensures.names in
     let a = few_names c.args.triples.items in
-    let b = few_terms c.args.key.now c.requires.plain in
+    let b = c.keys.ensures.few_terms in
     let f = c.requires.few in
     omega arith
 
@@ -18,8 +18,8 @@ pub build-requires-clause-named : goal.build-requires-clause-named
 build-requires-clause-named c =
     let ts = c.args.triples.items in
     let named = subst (λ ns. AreNamed ns ts) (sym c.in_ok-rows.ensures.names) (all_named [] ts) in
-    let a = ap length c.in_ok-patterns.ensures.ok.0 in
-    let b = (length-with_terms c.rows_of.new.names (key_terms c.args.key.now)).0 in
+    let a = ap length c.in_ok-patterns.ensures.names in
+    let b = (length-with_terms c.rows_of.new.names (key_terms c.args.keys.now)).0 in
     let n = c.len.ensures.len in
     rw c.in_ok-rows.ensures.rows (rows_within c.rows_of.new.names ts c.len.result named (omega arith))
 
@@ -37,5 +37,8 @@ returns-clause-graph c =
     let ts = c.args.triples.items in
     let g = c.in_ok-graph.ensures in
     let named = subst (λ ns. AreNamed ns ts) (sym c.in_ok-rows.ensures.names) (all_named [] ts) in
-    numbered ts c.rows_of.new.names c.compile.new.names c.in_ok-rows.rows.items c.in_ok-graph.graph (key_terms c.args.key.now) named c.in_ok-patterns.ensures.ok.0
+    numbered ts c.rows_of.new.names c.compile.new.names c.in_ok-rows.rows.items c.in_ok-graph.graph (key_terms c.args.keys.now) named c.in_ok-patterns.ensures.names
     c.in_ok-rows.ensures.rows g.rows (g.literal ∙ c.in_ok-literal.ensures) (g.rdf_type ∙ c.in_ok-rdf_type.ensures) (g.alike ∙ c.in_ok-alike.ensures.value)
+
+pub returns-clause-few_patterns : goal.returns-clause-few_patterns
+returns-clause-few_patterns c = few_patterns c.compile.new.names c.args.keys.now c.in_ok-patterns.patterns.items c.in_ok-patterns.ensures.patterns c.keys.ensures.few

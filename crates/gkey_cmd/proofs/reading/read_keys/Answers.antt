@@ -11,6 +11,13 @@ returns-in-Ok-line_text-clause-cases g c = (
   (
     InKeys c.in-Err-Refused.refusal,
     c.in-Ok-line_text.ensures ∙ ap (line_text Keys c.in-Err-Refused.refusal.line) c.text.ensures,
-    keys_loaded (g.S.Shelf.held c.args.shelf.now) _ c.args.name.now _ _ _ c.in-Ok.ensures.bytes c.deref.ensures.value (rw c.in-Err-Refused.field-0-is at c.in-Err-Refused.ensures.answer),
+    keys_loaded (g.S.Shelf.held c.args.shelf.now) _ c.args.name.now _ _ _ c.in-Ok.ensures.bytes c.deref.ensures.value (rw c.in-Err-Refused.field-0-is at c.in-Err-Refused.ensures.says),
+    tt,
   ),
+)
+
+pub returns-in-Ok-read_keys-clause-cases : goal.returns-in-Ok-read_keys-clause-cases
+returns-in-Ok-read_keys-clause-cases g c = (
+  c.in-Ok.ensures.count (λ h. cc),
+  keys_loaded (g.S.Shelf.held c.args.shelf.now) _ c.args.name.now _ _ _ c.in-Ok.ensures.bytes c.deref.ensures.value (rw c.in-Ok-read_keys.is at c.read_keys.ensures.says),
 )

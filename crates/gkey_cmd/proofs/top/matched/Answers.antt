@@ -3,12 +3,12 @@ use Rattle.std.proofs.Common.{[], ◌∷◌, Ok, Vec, Global, Option, IfSome, re
 use Rattle.std.proofs.lemmas.Result.{err_from_is_err_and}
 use Rattle.gk_base.specs.declared.term.Triple.{Triple}
 use Rattle.gk_io.specs.Files.{bytes_of}
-use Rattle.plain_files.specs.KeyText.{KeyText}
+use Rattle.key_file.specs.KeyShape.{KeyShape}
 use Rattle.gkey_cmd.specs.Commands.{Matching}
 use Rattle.gkey_cmd.specs.Reading.{GraphSays, KeysSay, IsAccepted}
 use Rattle.gkey_cmd.specs.declared.file.File.TheVariants.{Graph, Keys}
 use Rattle.gkey_cmd.proofs.Told.{told_more}
-use Rattle.gkey_cmd.proofs.Deciding.{read_none, read_next, stopped, match_ended}
+use Rattle.gkey_cmd.proofs.Deciding.{read_none, read_next, stopped, stops_at_graph, stops_at_keys, match_ended}
 use Rattle.gkey_cmd.proofs.top.matched.Goals as goal
 
 pub returns-in_err-triples : goal.returns-in_err-triples
@@ -19,26 +19,28 @@ returns-in_err-triples g c =
     let none = read_none g.S.Shelf a.shelf.now a.limits.now in
     rw (p.1, p.2) (stopped g.S.Shelf a.shelf.now a.shelf.now c.read_graph.new.shelf a.limits.now [] Graph a.graph.now none
     {A = Vec Triple Global} (λ files triples. GraphSays a.limits.now (bytes_of files a.graph.now) (Ok triples.items))
-    (Matching a.graph.now a.keys.now) ((Keys, a.keys.now) ∷ []) refl c.in_err-triples.field-0.0 c.in_err-triples.ensures.cases)
+    (Matching a.graph.now a.keys.now) ((Keys, a.keys.now) ∷ []) refl
+    (stops_at_graph g.S.Shelf a.shelf.now c.read_graph.new.shelf a.limits.now a.graph.now a.keys.now) c.in_err-triples.field-0.0 c.in_err-triples.ensures.cases)
 
-pub returns-in_err-key : goal.returns-in_err-key
-returns-in_err-key g c =
+pub returns-in_err-read : goal.returns-in_err-read
+returns-in_err-read g c =
     let a = c.args in
-    let k = c.from_residual-in_err-key in
+    let k = c.from_residual-in_err-read in
     let p = err_from_is_err_and k.result k.ensures.1 in
     let none = read_none g.S.Shelf a.shelf.now a.limits.now in
     let accepted = told_more (g.S.Shelf.held a.shelf.now) (λ files. GraphSays a.limits.now (bytes_of files a.graph.now) (Ok c.in_ok-triples.triples.items))
     (λ files. IsAccepted a.limits.now files Graph a.graph.now) (λ files e. (c.in_ok-triples.triples.items, e)) c.in_ok-triples.ensures.cases.1 in
     let one = read_next g.S.Shelf a.shelf.now a.shelf.now c.read_graph.new.shelf a.limits.now [] Graph a.graph.now none accepted c.in_ok-triples.ensures.cases.0 c.in_ok-triples.ensures.held in
     rw (p.1, p.2) (stopped g.S.Shelf a.shelf.now c.read_graph.new.shelf c.read_keys.new.shelf a.limits.now ((Graph, a.graph.now) ∷ []) Keys a.keys.now one
-    {A = Option KeyText} (λ files key. KeysSay a.limits.now (bytes_of files a.keys.now) (Ok key))
-    (Matching a.graph.now a.keys.now) [] refl c.in_err-key.field-0.0 c.in_err-key.ensures.cases)
+    (λ files read. KeysSay a.limits.now (bytes_of files a.keys.now) (Ok read))
+    (Matching a.graph.now a.keys.now) [] refl
+    (stops_at_keys g.S.Shelf a.shelf.now c.read_keys.new.shelf a.limits.now a.graph.now a.keys.now) c.in_err-read.field-0.0 c.in_err-read.ensures.cases)
 
 pub returns : goal.returns
 returns g c =
     let a = c.args in
     let t = c.in_ok-triples in
-    let k = c.in_ok-key in
-    let in_keys = subst (λ o. IfSome o (λ files. KeysSay a.limits.now (bytes_of files a.keys.now) (Ok k.key))) t.ensures.held k.ensures.cases.1 in
-    match_ended g.S.Shelf a.shelf.now c.read_keys.new.shelf a.limits.now a.graph.now a.keys.now t.triples.items k.key (k.ensures.cases.0 ∙ t.ensures.cases.0)
+    let k = c.in_ok-read in
+    let in_keys = subst (λ o. IfSome o (λ files. KeysSay a.limits.now (bytes_of files a.keys.now) (Ok k.read))) t.ensures.held k.ensures.cases.1 in
+    match_ended g.S.Shelf a.shelf.now c.read_keys.new.shelf a.limits.now a.graph.now a.keys.now t.triples.items k.read (k.ensures.cases.0 ∙ t.ensures.cases.0)
     t.ensures.cases.1 in_keys c.match_files.result c.match_files.ensures

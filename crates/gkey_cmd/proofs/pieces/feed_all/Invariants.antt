@@ -1,0 +1,18 @@
+use Rattle.std.proofs.Common.{List, ℕ, ◌≡◌, ◌<◌, ◌≤◌, ◌-◌, length}
+use Rattle.gkey_cmd.proofs.FeedingLemmas.{HasFed}
+use Rattle.gkey_cmd.proofs.pieces.feed_all.Given as goal
+
+abbrev pub invariant-pieces : goal.invariant-pieces
+invariant-pieces g l =
+    let shelf = g.S.Shelf in
+    record {
+      held : shelf.held l.shelf ≡ shelf.held l.fn.shelf;
+      asked : shelf.asked l.shelf ≡ shelf.asked l.fn.shelf;
+      count : shelf.faults l.shelf ≡ shelf.faults l.fn.shelf;
+      some : 0 < length l.buf;
+      few : length l.buf ≤ 65536;
+      fed : (seen : List ℕ) × HasFed shelf l.fn.shelf l.shelf l.fn.reader.limits l.reader seen;
+    }
+
+abbrev pub decreases-pieces : goal.decreases-pieces
+decreases-pieces g l = l.reader.limits.bytes - l.reader.state.bytes

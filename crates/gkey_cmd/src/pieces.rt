@@ -1,0 +1,96 @@
+//! A graph, read piece by piece.
+
+ghost use Rattle.std.specs.Prelude.{◌≡◌, ◌<◌, ◌≤◌, ◌^◌, [], length};
+ghost use Rattle.nt_reader.specs.Kept.{HasRead};
+ghost use Rattle.gkey_cmd.specs.Written.{AreWithin};
+ghost use Rattle.gkey_cmd.specs.Feeding.{FeedsNext, FeedsAll, GivesTriples};
+
+use crate::load::{LoadStop, open};
+use gk_base::{Limits, ReadStop, Text, Triple};
+use gk_io::{Failed, Shelf};
+use nt_reader::Reader;
+use std::alloc::Global;
+
+/// Why the triples of a graph are not to be had.
+#[derive(Clone, Copy)]
+pub enum GraphStop {
+    /// The file could not be found or read.
+    Failed,
+    /// It is refused, or no memory was to be had.
+    Stopped(ReadStop),
+}
+
+impl From<Failed> for GraphStop {
+    ghost use Rattle.gkey_cmd.specs.declared.pieces.GraphStop.TheVariants as stop;
+
+    ghost from_gives = { λ _ e. e ≡ stop.Failed };
+
+    fn from(_: Failed) -> Self {
+        GraphStop::Failed
+    }
+}
+
+impl From<ReadStop> for GraphStop {
+    ghost use Rattle.gkey_cmd.specs.declared.pieces.GraphStop.TheVariants as stop;
+
+    ghost from_gives = { λ s e. e ≡ stop.Stopped s };
+
+    fn from(stop: ReadStop) -> Self {
+        GraphStop::Stopped(stop)
+    }
+}
+
+/// Reads the next piece and feeds it, and answers how many bytes it has: none only at the end.
+fn feed_next<S: Shelf>(
+    shelf: &mut S,
+    buf: &mut [u8],
+    reader: &mut Reader,
+) -> Result<usize, GraphStop>
+    requires { 0 < length buf.old }
+    ensures held { S.held shelf.new ≡ S.held shelf.old }
+    ensures asked { S.asked shelf.new ≡ S.asked shelf.old }
+    ensures limits { reader.new.limits ≡ reader.old.limits }
+    ensures feeds { FeedsNext S.Shelf shelf.old shelf.new (length buf.old) reader.old reader.new result }
+{
+    let count = shelf.read(buf)?;
+    reader.feed(&buf[..count])?;
+    Ok(count)
+}
+
+/// Reads on to the end of the file, and feeds each piece before it reads the next.
+fn feed_all<S: Shelf>(shelf: &mut S, buf: &mut [u8], reader: &mut Reader) -> Result<(), GraphStop>
+    requires some { 0 < length buf.old }
+    requires few { length buf.old ≤ 65536 }
+    requires fresh { HasRead reader.old [] }
+    ensures held { S.held shelf.new ≡ S.held shelf.old }
+    ensures asked { S.asked shelf.new ≡ S.asked shelf.old }
+    ensures limits { reader.new.limits ≡ reader.old.limits }
+    ensures feeds { FeedsAll S.Shelf shelf.old shelf.new reader.old.limits reader.new result }
+{
+    'pieces: loop {
+        if feed_next(shelf, buf, reader)? == 0 {
+            return Ok(());
+        }
+    }
+}
+
+/// The triples of the graph of this name. It is read piece by piece, and no further once it is refused.
+pub fn read_triples<S: Shelf>(
+    alloc: Global,
+    shelf: &mut S,
+    name: &Text,
+    limits: &Limits,
+) -> Result<Vec<Triple>, GraphStop>
+    requires { AreWithin limits.now }
+    ensures held { S.held shelf.new ≡ S.held shelf.old }
+    ensures gives { GivesTriples S.Shelf shelf.old shelf.new limits.now name.now result }
+{
+    let mut buf = match open(alloc, shelf, name) {
+        Ok(buf) => buf,
+        Err(LoadStop::Failed) => return Err(GraphStop::Failed),
+        Err(LoadStop::NoMemory) => return Err(GraphStop::Stopped(ReadStop::NoMemory)),
+    };
+    let mut reader = Reader::new(alloc, limits);
+    feed_all(shelf, &mut buf, &mut reader)?;
+    Ok(reader.finish()?)
+}

@@ -1,0 +1,44 @@
+//! What a chase needs before it runs.
+
+ghost use Rattle.std.specs.Prelude.{◌≡◌, ◌<◌, ◌^◌, ◌↔◌, ℕ, Contains, length, IfOk, IfErr, OnOk};
+ghost use Rattle.chase_laws.specs.Candidate.{IsCandidate};
+ghost use Rattle.pair_seed.specs.Pairs.{HasMoreCandidates};
+ghost use Rattle.pair_seed.specs.Stop.{IsRightStop};
+
+use chase_core::Setup;
+use chase_laws::Pattern;
+use pair_seed::{SeedStop, seed};
+use std::alloc::Global;
+use typed_graph::Graph;
+
+/// What a chase works on, and how many candidate pairs there are.
+#[derive(Drop)]
+pub struct Prepared {
+    pub setup: Setup,
+    /// The number of candidate pairs.
+    pub seeded: u64,
+}
+
+/// Prepares a chase over all candidate pairs of a graph under keys.
+///
+/// `TooManyPairs` comes exactly where there are more candidate pairs than `limit`, and `NoMemory` where memory ran out.
+pub fn prepare(
+    alloc: Global,
+    graph: Graph,
+    patterns: Vec<Pattern>,
+    limit: u64,
+) -> Result<Prepared, SeedStop>
+    requires limit { limit < 2 ^ 32 }
+    requires few { length patterns.items < 2 ^ 32 }
+    ensures graph { IfOk result (λ p. p.setup.task.graph ≡ graph) }
+    ensures patterns { IfOk result (λ p. p.setup.task.patterns ≡ patterns.items) }
+    ensures pairs { IfOk result (λ p. (a b : ℕ) → Contains p.setup.task.pairs (a, b) ↔ IsCandidate graph patterns.items a b) }
+    ensures seeded { IfOk result (λ p. p.seeded ≡ length p.setup.task.pairs) }
+    ensures no_more { OnOk result (¬ (HasMoreCandidates graph patterns.items limit)) }
+    ensures stop { IfErr result (IsRightStop graph patterns.items limit) }
+{
+    let pairs = seed(alloc, &graph, &patterns, limit)?;
+    let seeded = pairs.len() as u64;
+    let setup = Setup::new(alloc, graph, patterns, pairs)?;
+    Ok(Prepared { setup, seeded })
+}
