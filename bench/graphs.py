@@ -1,0 +1,112 @@
+"""Makes graphs and key files for the measurements: each from a size and a seed alone."""
+
+import random
+
+TYPE = "<http://www.w3.org/1999/02/22-rdf-syntax-ns#type>"
+SITE = "http://catalogue.example.org/"
+NO_KEY = "# no key\n"
+
+CATALOGUE_KEYS = f"""# Two sources of one catalogue.
+key label_by_code <{SITE}Label>
+value $c
+?x <{SITE}code> $c
+end
+key artist_by_name_and_label <{SITE}Artist>
+entity ?l <{SITE}Label>
+value $n
+?x <{SITE}name> $n
+?x <{SITE}signed> ?l
+end
+key album_by_title_and_artist <{SITE}Album>
+entity ?a <{SITE}Artist>
+value $t
+?x <{SITE}title> $t
+?x <{SITE}by> ?a
+end
+"""
+
+CHAIN_KEYS = """key base <urn:T>
+value $n
+value $c
+?x <urn:name> $n
+?x <urn:code> $c
+end
+key link <urn:T>
+entity ?y <urn:T>
+value $n
+?x <urn:name> $n
+?x <urn:next> ?y
+end
+"""
+
+
+def mixed(out, triples, seed=1):
+    """A graph as exporters write it: IRIs, blank nodes, plain, typed and tagged literals, some escapes and comments."""
+    rng = random.Random(seed)
+    for n in range(triples):
+        kind = rng.randrange(20)
+        subject = f"<{SITE}thing/{n // 5}>" if kind else f"_:b{n // 5}"
+        predicate = f"<{SITE}vocabulary#property{rng.randrange(40)}>"
+        if kind < 6:
+            object = f"<{SITE}thing/{rng.randrange(triples // 5 + 1)}>"
+        elif kind < 8:
+            object = f"_:b{rng.randrange(triples // 5 + 1)}"
+        elif kind < 14:
+            object = f'"A plain value of some length, number {rng.randrange(triples)}"'
+        elif kind < 16:
+            object = f'"{rng.randrange(10 ** 6)}"^^<http://www.w3.org/2001/XMLSchema#integer>'
+        elif kind < 18:
+            object = f'"ein Wert mit Umlauten \u00e4\u00f6\u00fc {rng.randrange(triples)}"@de'
+        else:
+            object = f'"a \\"quoted\\" word,\\na line and \\u00E9 {rng.randrange(triples)}"'
+        out.write(f"{subject} {predicate} {object} .\n")
+        if n % 1000 == 0:
+            out.write("# a comment between the lines\n")
+
+
+def catalogue(out, triples, seed=1):
+    """Albums, artists and labels from two sources. Of each thing both sources have a description in three cases of four."""
+    rng = random.Random(seed)
+    labels = max(2, triples // 132)
+    artists = labels * 4
+    albums = artists * 4
+
+    def sources():
+        return ("a", "b") if rng.randrange(4) else (rng.choice("ab"),)
+
+    held = {}
+    for number in range(labels):
+        held["label", number] = sources()
+        for source in held["label", number]:
+            thing = f"<{SITE}{source}/label/{number}>"
+            out.write(f"{thing} {TYPE} <{SITE}Label> .\n")
+            out.write(f'{thing} <{SITE}code> "L{number}" .\n')
+    for number in range(artists):
+        label = rng.randrange(labels)
+        held["artist", number] = sources()
+        for source in held["artist", number]:
+            thing = f"<{SITE}{source}/artist/{number}>"
+            out.write(f"{thing} {TYPE} <{SITE}Artist> .\n")
+            out.write(f'{thing} <{SITE}name> "Artist {number // 2}" .\n')
+            if source in held["label", label]:
+                out.write(f"{thing} <{SITE}signed> <{SITE}{source}/label/{label}> .\n")
+    for number in range(albums):
+        artist = rng.randrange(artists)
+        for source in sources():
+            thing = f"<{SITE}{source}/album/{number}>"
+            out.write(f"{thing} {TYPE} <{SITE}Album> .\n")
+            out.write(f'{thing} <{SITE}title> "Album {number // 3}" .\n')
+            out.write(f'{thing} <{SITE}year> "{1960 + rng.randrange(60)}"^^<http://www.w3.org/2001/XMLSchema#gYear> .\n')
+            if source in held["artist", artist]:
+                out.write(f"{thing} <{SITE}by> <{SITE}{source}/artist/{artist}> .\n")
+
+
+def chain(out, pairs, seed=1):
+    """Pairs of which each can be identified once the one before it is."""
+    for i in range(pairs):
+        out.write(f"<urn:a:{i}> {TYPE} <urn:T> .\n<urn:b:{i}> {TYPE} <urn:T> .\n")
+        out.write(f'<urn:a:{i}> <urn:name> "n{i}" .\n<urn:b:{i}> <urn:name> "n{i}" .\n')
+        if i == 0:
+            out.write('<urn:a:0> <urn:code> "c" .\n<urn:b:0> <urn:code> "c" .\n')
+        else:
+            out.write(f"<urn:a:{i}> <urn:next> <urn:a:{i - 1}> .\n<urn:b:{i}> <urn:next> <urn:b:{i - 1}> .\n")

@@ -1,0 +1,47 @@
+#!/usr/bin/env python3
+"""Times `gkey match` with an empty key file beside `serdi` and `rapper -c` on the same graphs.
+
+Usage: bench/reading_and_numbering.py [MILLIONS ..]   (1 2 4, if none are given)
+
+It needs Debian's packages serdi and raptor2-utils. Each tool runs three times and the best run counts. `serdi` and
+`rapper` only parse; `gkey` also numbers every term and builds the graph's indexes.
+"""
+
+import pathlib
+import sys
+import tempfile
+
+import graphs
+from timing import PROGRAM, best_of_three, built
+
+COLUMNS = "{:>10} {:>8} {:>10} {:>10} {:>12} {:>10} {:>10}"
+
+
+def tools(graph, keys):
+    yield "gkey", [str(PROGRAM), "match", graph, keys]
+    yield "serdi", ["serdi", "-i", "ntriples", "-o", "ntriples", graph]
+    yield "rapper", ["rapper", "-q", "-c", "-i", "ntriples", graph]
+
+
+def main():
+    built()
+    sizes = [float(word) for word in sys.argv[1:]] or [1, 2, 4]
+    print(COLUMNS.format("triples", "MB", "tool", "seconds", "triples/s", "MB/s", "peak MB"))
+    with tempfile.TemporaryDirectory() as folder:
+        keys = pathlib.Path(folder) / "keys.gk"
+        keys.write_text(graphs.NO_KEY)
+        for size in sizes:
+            triples = int(size * 1_000_000)
+            graph = pathlib.Path(folder) / "graph.nt"
+            with graph.open("w", encoding="utf-8") as out:
+                graphs.mixed(out, triples)
+            megabytes = graph.stat().st_size / 1e6
+            for tool, command in tools(str(graph), str(keys)):
+                run = best_of_three(command)
+                print(COLUMNS.format(triples, f"{megabytes:.0f}", tool, f"{run.seconds:.2f}",
+                                     f"{triples / run.seconds:.0f}", f"{megabytes / run.seconds:.0f}", f"{run.megabytes:.0f}"),
+                      flush=True)
+
+
+if __name__ == "__main__":
+    main()
