@@ -46,13 +46,13 @@ def mixed(out, triples, seed=1):
     for n in range(triples):
         kind = rng.randrange(20)
         subject = f"<{SITE}thing/{n // 5}>" if kind else f"_:b{n // 5}"
-        predicate = f"<{SITE}vocabulary#property{rng.randrange(40)}>"
+        predicate = f"<{SITE}terms#p{rng.randrange(40)}>"
         if kind < 6:
             object = f"<{SITE}thing/{rng.randrange(triples // 5 + 1)}>"
         elif kind < 8:
             object = f"_:b{rng.randrange(triples // 5 + 1)}"
         elif kind < 14:
-            object = f'"A plain value of some length, number {rng.randrange(triples)}"'
+            object = f'"A plain value with the number {rng.randrange(triples)}"'
         elif kind < 16:
             object = f'"{rng.randrange(10 ** 6)}"^^<http://www.w3.org/2001/XMLSchema#integer>'
         elif kind < 18:
