@@ -5,8 +5,8 @@ Usage: bench/reading.py [--lines N] [--file FILE]
 
 It makes a file of N lines (1,000,000 if left out), the same at every call, or takes FILE; builds the program of
 bench/programs/count_triples in a temporary folder; runs the program and `serdi` (Debian's package of that name) three times
-each; and prints the best processor time of each. Both read and check every triple: the program keeps all of them in memory, `serdi` writes them to
-/dev/null. Where there is no `serdi`, its row is left out. Nothing is kept but the file that --file names.
+each; and prints the best processor time of each. Both read and check every triple: the program keeps all of them in
+memory, `serdi` writes them to /dev/null. Where there is no `serdi`, its row is left out.
 """
 
 import argparse
