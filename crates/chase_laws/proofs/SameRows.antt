@@ -1,16 +1,18 @@
--- The rows of a graph are a set: their order and repeats are of no account.
-use Rattle.std.proofs.Common.{List, [], ◌∷◌, ℕ, Bool, Option, Some, None, IsSomeAnd, false, slice_index, slice_index_or, get_or, take, ◌≡◌, ◌∙◌, sym, ap, subst}
+-- The rows of a graph are a set: their order and repeats are of no account. Nor is what names are alike to, where no key
+-- has a folded value variable.
+use Rattle.std.proofs.Common.{List, [], ◌∷◌, ℕ, Bool, Option, Some, None, IsSomeAnd, false, slice_get, slice_index, slice_index_or, get_or, take, ◌≡◌, ◌⊎◌, ◌∙◌, inl, inr, sym, ap, subst}
 use Rattle.chase_laws.specs.declared.pattern.Slot.{Slot}
 use Rattle.chase_laws.specs.declared.pattern.Slot.TheVariants.{Entity, Any as AnyOf, Value, Folded, Fixed}
 use Rattle.chase_laws.specs.declared.pattern.Edge.{Edge}
 use Rattle.chase_laws.specs.Shape.{Shape}
-use Rattle.chase_laws.specs.Graph.{NumberedGraph, HasRow, HasType, HasRowsOf}
+use Rattle.chase_laws.specs.Graph.{NumberedGraph, HasRow, HasType, AreAlike}
+use Rattle.chase_laws.specs.SameRows.{IsUnfolded, AreUnfolded, HasRowsOf}
 use Rattle.chase_laws.specs.Valuation.{FitsSlot, IsValuation, AgreeAt, IsMatch}
 use Rattle.chase_laws.specs.Joined.{joined_by}
 use Rattle.chase_laws.specs.Chase.{AreSame}
 use Rattle.chase_laws.specs.Candidate.{Shares, IsCandidate}
 
-module _ (G F : NumberedGraph) (h : HasRowsOf G F) where
+module _ (K : List Shape) (G F : NumberedGraph) (h : HasRowsOf K G F) where
   row : (s p o : ℕ) → HasRow G s p o → HasRow F s p o
   row s p o r = h.rows (s ∷ p ∷ o ∷ []) r
 
@@ -39,42 +41,51 @@ module _ (G F : NumberedGraph) (h : HasRowsOf G F) where
     edges = λ i e l. let f : Edge = get_or Q.edges i e in row (slice_index v f.from) f.pred (slice_index v f.to) (k.edges i e l);
   }
 
-  agree : (same : ℕ → ℕ → Bool) (s : ℕ) (slot : Slot) (m n : ℕ) → AgreeAt G same s slot m n → AgreeAt F same s slot m n
-  agree same s (Entity t) m n k = k
-  agree same s (AnyOf t) m n k = tt
-  agree same s Value m n k = k
-  agree same s Folded m n k = subst (λ a. slice_index a m ≡ slice_index a n) h.alike k
-  agree same s (Fixed c) m n k = tt
+  -- literals that are alike at a folded slot of some key
+  alike : (key : ℕ) (Q : Shape) (s m n : ℕ) → slice_get K key ≡ Some Q → slice_get Q.slots s ≡ Some Folded → AreAlike G m n → AreAlike F m n
+  alike key Q s m n found at k = elim h.alike [
+    | inl e ↦ subst (λ a. slice_index a m ≡ slice_index a n) e k
+    | inr none ↦ absurd (none key Q found s at)
+  ]
 
-  pub match_too : (Q : Shape) (same : ℕ → ℕ → Bool) (a b : ℕ) (v w : List ℕ) → IsMatch G Q same a b v w → IsMatch F Q same a b v w
-  match_too Q same a b v w k = record {
-    left = valuation Q v k.left;
-    right = valuation Q w k.right;
-    coincide = λ s slot at. agree same s slot (slice_index v s) (slice_index w s) (k.coincide s slot at);
-    at_a = k.at_a;
-    at_b = k.at_b;
-  }
+  module _ (key : ℕ) (Q : Shape) (found : slice_get K key ≡ Some Q) where
+    agree : (same : ℕ → ℕ → Bool) (s : ℕ) (slot : Slot) (m n : ℕ) → slice_get Q.slots s ≡ Some slot → AgreeAt G same s slot m n → AgreeAt F same s slot m n
+    agree same s (Entity t) m n at k = k
+    agree same s (AnyOf t) m n at k = tt
+    agree same s Value m n at k = k
+    agree same s Folded m n at k = alike key Q s m n found at k
+    agree same s (Fixed c) m n at k = tt
 
-  pub same_too : (K : List Shape) (a b : ℕ) → AreSame G K a b → AreSame F K a b
-  same_too K a b k = (
+    match_too : (same : ℕ → ℕ → Bool) (a b : ℕ) (v w : List ℕ) → IsMatch G Q same a b v w → IsMatch F Q same a b v w
+    match_too same a b v w k = record {
+      left = valuation Q v k.left;
+      right = valuation Q w k.right;
+      coincide = λ s slot at. agree same s slot (slice_index v s) (slice_index w s) at (k.coincide s slot at);
+      at_a = k.at_a;
+      at_b = k.at_b;
+    }
+
+    share : (s : ℕ) (slot : Slot) (p a b : ℕ) → slice_get Q.slots s ≡ Some slot → Shares G slot p a b → Shares F slot p a b
+    share s Value p a b at k = (k.0, sym (literal_flag k.0) ∙ k.1, row a p k.0 k.2, row b p k.0 k.3)
+    share s Folded p a b at k =
+        (k.0, k.1, sym (literal_flag k.0) ∙ k.2, sym (literal_flag k.1) ∙ k.3, row a p k.0 k.4, row b p k.1 k.5, alike key Q s k.0 k.1 found at k.6)
+    share s (Entity t) p a b at k = tt
+    share s (AnyOf t) p a b at k = tt
+    share s (Fixed c) p a b at k = tt
+
+  pub same_too : (a b : ℕ) → AreSame G K a b → AreSame F K a b
+  same_too a b k = (
     k.0,
-    (λ i e at. let s = k.1 i e at in record { pattern = s.pattern; key = s.key; witness = match_too s.pattern (joined_by (take i k.0)) e.a e.b e.left e.right s.witness }),
+    (λ i e at. let s = k.1 i e at in record { pattern = s.pattern; key = s.key; witness = match_too e.key s.pattern s.key (joined_by (take i k.0)) e.a e.b e.left e.right s.witness }),
     k.2,
   )
 
-  share : (slot : Slot) (p a b : ℕ) → Shares G slot p a b → Shares F slot p a b
-  share Value p a b k = (k.0, sym (literal_flag k.0) ∙ k.1, row a p k.0 k.2, row b p k.0 k.3)
-  share Folded p a b k = (k.0, k.1, sym (literal_flag k.0) ∙ k.2, sym (literal_flag k.1) ∙ k.3, row a p k.0 k.4, row b p k.1 k.5, subst (λ l. slice_index l k.0 ≡ slice_index l k.1) h.alike k.6)
-  share (Entity t) p a b k = tt
-  share (AnyOf t) p a b k = tt
-  share (Fixed c) p a b k = tt
-
-  pub candidate_too : (K : List Shape) (a b : ℕ) → IsCandidate G K a b → IsCandidate F K a b
-  candidate_too K a b k = record {
+  pub candidate_too : (a b : ℕ) → IsCandidate G K a b → IsCandidate F K a b
+  candidate_too a b k = record {
     below = k.below;
     key = k.key;
     pattern = k.pattern;
     found = k.found;
     designated = λ slot at. let d = k.designated slot at in (fits slot a d.0, fits slot b d.1);
-    share = λ i e l from slot at. let f : Edge = get_or k.pattern.edges i e in share slot f.pred a b (k.share i e l from slot at);
+    share = λ i e l from slot at. let f : Edge = get_or k.pattern.edges i e in share k.key k.pattern k.found f.to slot f.pred a b at (k.share i e l from slot at);
   }

@@ -42,10 +42,3 @@ pub record IsFolding (G : NumberedGraph) : Type 0 where
   pub itself : (n : ℕ) → n < length G.literal → slice_index G.alike (slice_index G.alike n) ≡ slice_index G.alike n
   pub literals : (n : ℕ) → IsLiteral G n → IsLiteral G (slice_index G.alike n)
   pub others : (n : ℕ) → n < length G.literal → ¬ (IsLiteral G n) → slice_index G.alike n ≡ n
-
--- Each row of the one graph is a row of the other, and beside their rows they are the same.
-pub record HasRowsOf (G F : NumberedGraph) : Type 0 where
-  pub rows : (row : List ℕ) → Contains G.rows row → Contains F.rows row
-  pub literal : G.literal ≡ F.literal
-  pub rdf_type : G.rdf_type ≡ F.rdf_type
-  pub alike : G.alike ≡ F.alike

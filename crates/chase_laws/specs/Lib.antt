@@ -2,6 +2,7 @@ pub mod Shape
 pub mod Padded
 pub mod Joined
 pub mod Graph
+pub mod SameRows
 pub mod Valuation
 pub mod Chase
 pub mod Candidate

@@ -5,7 +5,8 @@ ghost use Rattle.std.specs.Prelude.{List, [], ◌∷◌, ◌++◌, ℕ, IsTrue, 
 ghost use Rattle.chase_laws.specs.declared.entry.Entry.{Entry};
 ghost use Rattle.chase_laws.specs.declared.pattern.Slot.TheVariants.{Entity};
 ghost use Rattle.chase_laws.specs.Shape.{Shape, IsPattern, PatternFacts};
-ghost use Rattle.chase_laws.specs.Graph.{NumberedGraph, HasRowsOf};
+ghost use Rattle.chase_laws.specs.Graph.{NumberedGraph};
+ghost use Rattle.chase_laws.specs.SameRows.{HasRowsOf};
 ghost use Rattle.chase_laws.specs.Valuation.{IsValuation, Matches};
 ghost use Rattle.chase_laws.specs.Joined.{joined, joined_by, Joined};
 ghost use Rattle.chase_laws.specs.Chase.{IsStep, IsDerivation, IsLean, AreSame, IsClosed, IsAble};
@@ -84,10 +85,11 @@ pub fn law_local()
 {}
 
 /// The rows of a graph are a set: two graphs that have each other's rows, and are else equal, have the same candidate
-/// pairs, and the same names are the same in both.
+/// pairs, and the same names are the same in both. What names are alike to is of no account to keys with no folded
+/// value variable.
 pub fn law_rows()
-    ensures same { (G F : NumberedGraph) (K : List Shape) → HasRowsOf G F → HasRowsOf F G → (a b : ℕ) → AreSame G K a b ↔ AreSame F K a b }
-    ensures candidates { (G F : NumberedGraph) (K : List Shape) → HasRowsOf G F → HasRowsOf F G → (a b : ℕ) → IsCandidate G K a b ↔ IsCandidate F K a b }
+    ensures same { (G F : NumberedGraph) (K : List Shape) → HasRowsOf K G F → HasRowsOf K F G → (a b : ℕ) → AreSame G K a b ↔ AreSame F K a b }
+    ensures candidates { (G F : NumberedGraph) (K : List Shape) → HasRowsOf K G F → HasRowsOf K F G → (a b : ℕ) → IsCandidate G K a b ↔ IsCandidate F K a b }
 {}
 
 /// What the test of a valid pattern says.

@@ -1,9 +1,8 @@
 //! Byte strings.
 
-ghost use Rattle.std.specs.Prelude.{◌≡◌, refl, bytes_eq, IfOk};
+ghost use Rattle.std.specs.Prelude.{◌≡◌, [], ◌∷◌, refl, bytes_eq, IfOk};
 ghost use Rattle.std.proofs.Common.{rules};
 ghost use Rattle.std.specs.Ordering.{nat_cmp, as_partial_cmp};
-ghost use Rattle.std.specs.Hash as fed;
 ghost use Rattle.std.specs.Cmp.{partial_equiv_from_equiv};
 ghost use Rattle.std.specs.Cmp.Lexicographic.{slice_cmp, nat_list_eq_equiv, nat_list_cmp_total, texts_ties, texts_po};
 ghost use Rattle.std.specs.Cmp.Rules.{hashing};
@@ -115,12 +114,12 @@ impl Ord for Text {
 }
 
 impl Hash for Text {
-    ghost hash_input = { fed.slice fed.u8 };
+    ghost hash_input = { λ t. t ∷ [] };
 
     ghost respects_eq = { Prim.search (hashing, rules) };
 
     fn hash<H: Hasher>(&self, state: &mut H) {
-        self.bytes().hash(state);
+        state.write(self.bytes());
     }
 }
 

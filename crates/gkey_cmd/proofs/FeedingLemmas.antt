@@ -1,7 +1,7 @@
 -- What was read so far of a graph: whether it is refused already, and what its reader then has.
-use Rattle.std.proofs.Common.{Global, List, [], ◌∷◌, ◌++◌, ℕ, zero, suc, ◌+◌, ◌-◌, ◌<◌, ◌≤◌, true, false, cond, Option, Some, None, IfSome, IsSomeAnd, Result, Ok, Err, IsOk, true≢false, length, take, drop, ◌≡◌, ◌∙◌, refl, sym, ap, ap₂, subst, arith, inl, inr, replicate, append_assoc, append-nil, length-append}
+use Rattle.std.proofs.Common.{Global, Vec, List, [], ◌∷◌, ◌++◌, ℕ, zero, suc, ◌+◌, ◌-◌, ◌*◌, ◌^◌, ◌<◌, ◌≤◌, true, false, cond, Option, Some, None, IfSome, IsSomeAnd, Result, Ok, Err, IsOk, true≢false, length, take, drop, ◌≡◌, ◌∙◌, refl, sym, ap, ap₂, subst, arith, inl, inr, replicate, append_assoc, append-nil, length-append}
 use Rattle.std.proofs.lemmas.Bool.{cases_Bool}
-use Rattle.std.proofs.lemmas.List.{take-append-drop, take-append-le, length-replicate}
+use Rattle.std.proofs.lemmas.List.{take-append-drop, take-append-le, length-replicate, nil_from_length}
 use Rattle.std.proofs.lemmas.List.Elements.{All-replicate}
 use Rattle.gk_base.specs.declared.limits.Limits.{Limits}
 use Rattle.gk_base.specs.declared.read_fault.ReadFault.TheVariants.{TooLong}
@@ -19,8 +19,11 @@ use Rattle.nt_reader.specs.declared.reader.Reader.{Reader}
 use Rattle.nt_reader.proofs.CutLemmas.{cut_append, some_plain}
 use Rattle.nt_reader.proofs.FileLemmas.{long_for_good}
 use Rattle.nt_reader.proofs.OneFile.{file_once}
-use Rattle.nt_reader.proofs.StateLemmas.{refuses_more}
-use Rattle.gkey_cmd.specs.Feeding.{WereRead, IsOpen, FeedsNext, FeedsAll, GivesTriples}
+use Rattle.nt_reader.proofs.StateLemmas.{all_few, refuses_more}
+use Rattle.gkey_cmd.specs.Feeding.{WereRead, IsOpen, FeedsNext, FeedsAll, GivesRows}
+use Rattle.gkey_cmd.specs.Rows.{StandFor}
+use Rattle.gkey_cmd.specs.declared.rows.Rows.{Rows}
+use Rattle.gkey_cmd.proofs.NumberedRows.{names_few}
 use Rattle.gkey_cmd.specs.Pieces.{StopsSoon, GraphStops}
 use Rattle.gkey_cmd.specs.Reading.{NamedFiles}
 use Rattle.gkey_cmd.proofs.Told.{told_more}
@@ -102,16 +105,17 @@ not_running A reader stop h = elim (cases_Bool reader.running) [
   | inr k ↦ k
 ]
 
-pub standing : (reader : Reader) (bytes : List ℕ) → reader.running ≡ true → HasRead reader bytes → Stands reader.limits reader.state bytes
-standing reader bytes e h = subst (λ b. cond b (Stands reader.limits reader.state bytes) (IsStopped reader.limits bytes reader.stop)) e h
+pub standing : (reader : Reader) (taken : List Triple) (bytes : List ℕ) → reader.running ≡ true → HasRead reader taken bytes → Stands reader.limits reader.state taken bytes
+standing reader taken bytes e h = subst (λ b. cond b (Stands reader.limits reader.state taken bytes) (IsStopped reader.limits bytes reader.stop)) e h
 
-pub stopped_by : (reader : Reader) (stop : ReadStop) → reader.running ≡ false → stop ≡ reader.stop → (bytes : List ℕ) → HasRead reader bytes → IsStopped reader.limits bytes stop
-stopped_by reader stop e s bytes h =
-    subst (IsStopped reader.limits bytes) (sym s) (subst (λ b. cond b (Stands reader.limits reader.state bytes) (IsStopped reader.limits bytes reader.stop)) e h)
+pub stopped_by : (reader : Reader) (stop : ReadStop) → reader.running ≡ false → stop ≡ reader.stop → (taken : List Triple) (bytes : List ℕ) → HasRead reader taken bytes → IsStopped reader.limits bytes stop
+stopped_by reader stop e s taken bytes h =
+    subst (IsStopped reader.limits bytes) (sym s) (subst (λ b. cond b (Stands reader.limits reader.state taken bytes) (IsStopped reader.limits bytes reader.stop)) e h)
 
-pub open_running : (reader : Reader) (bytes : List ℕ) → reader.running ≡ true → HasRead reader bytes → IsOpen reader.limits bytes
-open_running reader bytes e h =
-    let s = standing reader bytes e h in open_so_far reader.limits bytes reader.state.triples.items s.within s.good s.few
+pub open_running : (reader : Reader) (taken : List Triple) (bytes : List ℕ) → reader.running ≡ true → HasRead reader taken bytes → IsOpen reader.limits bytes
+open_running reader taken bytes e h =
+    let s = standing reader taken bytes e h in
+    open_so_far reader.limits bytes (taken ++ reader.state.triples.items) s.within s.good (all_few reader.limits reader.state taken bytes s)
 
 -- ---- what a shelf tells of its bytes
 
@@ -125,6 +129,13 @@ read_both None b c xs ys h k = tt
 read_both (Some all) None c xs ys h k = absurd h
 read_both (Some all) (Some mid) None xs ys h k = absurd k
 read_both (Some all) (Some mid) (Some rest) xs ys h k = h ∙ ap (λ r. xs ++ r) k ∙ sym (append_assoc xs ys rest)
+
+-- where nothing was left to read, what was read is all
+pub all_fed : (before after : Option (List ℕ)) (seen piece : List ℕ) → IfSome before (λ all. IsSomeAnd after (λ r. all ≡ seen ++ r)) → IfSome after (λ r. r ≡ []) →
+    length piece ≡ 0 → IfSome before (λ all. all ≡ seen ++ piece)
+all_fed None after seen piece h k z = tt
+all_fed (Some all) None seen piece h k z = absurd h
+all_fed (Some all) (Some rest) seen piece h k z = h ∙ ap (λ r. seen ++ r) (k ∙ sym (nil_from_length piece z))
 
 module _ {K : Type 0} (shelf : Shelf.Ghosts K) where
   pub were_read_none : (now : K) → WereRead shelf now now []
@@ -151,38 +162,85 @@ nothing_read (Some old) (Some new) room n buf some h e = (h.nothing_at_end some)
 
 -- ---- the loop
 
--- what was read and fed so far
-pub record HasFed {K : Type 0} (shelf : Shelf.Ghosts K) (old now : K) (limits : Limits) (reader : Reader) (seen : List ℕ) : Type 0 where
+-- what was read, fed and numbered so far
+pub record HasFed {K : Type 0} (shelf : Shelf.Ghosts K) (old now : K) (limits : Limits) (reader : Reader) (rows : Rows) (taken : List Triple) (seen : List ℕ) : Type 0 where
   pub read : WereRead shelf old now seen
-  pub has : HasRead reader seen
+  pub has : HasRead reader taken seen
+  pub stand : StandFor rows taken
   pub same : reader.limits ≡ limits
   pub not_refused : IsOpen limits seen
 
-module _ {K : Type 0} (shelf : Shelf.Ghosts K) (old mid new : K) (limits : Limits) (room : ℕ) (before after : Reader) (seen : List ℕ)
-    (so_far : HasFed shelf old mid limits before seen) (count : shelf.faults mid ≡ shelf.faults old) (same : after.limits ≡ before.limits) where
+module _ {K : Type 0} (shelf : Shelf.Ghosts K) (old mid new : K) (limits : Limits) (room : ℕ) (before after : Reader) (rows : Rows) (taken : List Triple) (seen : List ℕ)
+    (so_far : HasFed shelf old mid limits before rows taken seen) (count : shelf.faults mid ≡ shelf.faults old) (same : after.limits ≡ before.limits) where
   -- one piece more
-  pub fed_more : (n : ℕ) (next : FeedsNext shelf mid new room before after (Ok n)) → HasFed shelf old new limits after (seen ++ next.0)
+  pub fed_more : (n : ℕ) (next : FeedsNext shelf mid new room before after (Ok n)) → HasFed shelf old new limits after rows taken (seen ++ next.0)
   fed_more n next =
-      let has = next.1.fed seen so_far.has in record {
+      let has = next.1.fed taken seen so_far.has in record {
         read = were_read_more shelf old mid new seen next.0 so_far.read next.1.read;
         has = has;
+        stand = so_far.stand;
         same = same ∙ so_far.same;
-        not_refused = subst (λ l. IsOpen l (seen ++ next.0)) (same ∙ so_far.same) (open_running after (seen ++ next.0) next.4 has);
+        not_refused = subst (λ l. IsOpen l (seen ++ next.0)) (same ∙ so_far.same) (open_running after taken (seen ++ next.0) next.4 has);
       }
 
   -- the file is not read on
-  pub fed_no_more : (stop : GraphStop) → room ≤ 65536 → FeedsNext shelf mid new room before after (Err stop) → FeedsAll {A = Unit {0}} shelf old new limits after (Err stop)
-  fed_no_more Failed few next = (subst (λ n. Rose n (shelf.faults new)) count next.0, next.1)
-  fed_no_more (Stopped stop) few next =
+  pub fed_no_more : (stop : GraphStop) (left : Rows) → room ≤ 65536 → FeedsNext shelf mid new room before after (Err stop) → FeedsAll {A = Unit {0}} shelf old new limits after left (Err stop)
+  fed_no_more Failed left few next = (subst (λ n. Rose n (shelf.faults new)) count next.0, next.1)
+  fed_no_more (Stopped stop) left few next =
       let inside = next.1.within in (
         next.1.count ∙ count,
         (
           seen ++ next.0,
           were_read_more shelf old mid new seen next.0 so_far.read next.1.read,
-          subst (λ l. IsStopped l (seen ++ next.0) stop) (same ∙ so_far.same) (next.2 (seen ++ next.0) (next.1.fed seen so_far.has)),
+          subst (λ l. IsStopped l (seen ++ next.0) stop) (same ∙ so_far.same) (next.2 taken (seen ++ next.0) (next.1.fed taken seen so_far.has)),
           open_before limits seen next.0 so_far.not_refused (omega arith),
         ),
       )
+
+-- the triples that were taken are numbered
+pub fed_taken : {K : Type 0} (shelf : Shelf.Ghosts K) (old now : K) (limits : Limits) (before after : Reader) (rows more : Rows) (taken triples : List Triple) (seen : List ℕ) →
+    HasFed shelf old now limits before rows taken seen → after.limits ≡ before.limits →
+    ((done : List Triple) (bytes : List ℕ) → HasRead before done bytes → HasRead after (done ++ triples) bytes) →
+    ((done : List Triple) → StandFor rows done → StandFor more (done ++ triples)) → HasFed shelf old now limits after more (taken ++ triples) seen
+fed_taken shelf old now limits before after rows more taken triples seen h same takes adds = record {
+  read = h.read;
+  has = takes taken seen h.has;
+  stand = adds taken h.stand;
+  same = same ∙ h.same;
+  not_refused = h.not_refused;
+}
+
+-- the names with those of the triples that were taken are few
+pub taken_few : (reader : Reader) (rows : Rows) (taken triples : List Triple) (seen : List ℕ) → reader.running ≡ true → reader.limits.triples ≤ 2 ^ 22 →
+    StandFor rows taken → HasRead reader (taken ++ triples) seen → length rows.names + 3 * length triples < 2 ^ 32
+taken_few reader rows taken triples seen running few stand h =
+    let s = standing reader (taken ++ triples) seen running h in
+    let a = s.room in
+    let b = length-append taken triples in
+    let n = names_few rows taken stand in
+    omega arith
+
+-- the file was read to its end
+pub fed_all : {K : Type 0} (shelf : Shelf.Ghosts K) (old mid new : K) (limits : Limits) (room n : ℕ) (before after taker : Reader) (rows more : Rows) (taken triples : List Triple) (seen : List ℕ) →
+    HasFed shelf old mid limits before rows taken seen → shelf.faults mid ≡ shelf.faults old → (next : FeedsNext shelf mid new room before after (Ok n)) → n ≡ 0 →
+    HasFed shelf old new limits taker more (taken ++ triples) (seen ++ next.0) → FeedsAll {A = Unit {0}} shelf old new limits taker more (Ok tt)
+fed_all shelf old mid new limits room n before after taker rows more taken triples seen h count next z fed = (
+  next.1.count ∙ count,
+  (
+    taken ++ triples,
+    seen ++ next.0,
+    fed.read,
+    all_fed (shelf.rest old) (shelf.rest mid) seen next.0 h.read (next.5 z) (sym next.2 ∙ z),
+    fed.not_refused,
+    fed.has,
+    fed.stand,
+  ),
+)
+
+-- memory ran out
+pub fed_no_memory : {K : Type 0} (shelf : Shelf.Ghosts K) (old now : K) (limits : Limits) (reader after : Reader) (rows left : Rows) (taken : List Triple) (seen : List ℕ) →
+    HasFed shelf old now limits reader rows taken seen → shelf.faults now ≡ shelf.faults old → FeedsAll {A = Unit {0}} shelf old now limits after left (Err (Stopped NoMemory))
+fed_no_memory shelf old now limits reader after rows left taken seen h count = (count, (seen, h.read, tt, (λ n le. open_front limits seen h.not_refused n)))
 
 -- ---- the whole file
 
@@ -202,6 +260,11 @@ stops_soon : (limits : Limits) (bytes gone : List ℕ) (rest : Option (List ℕ)
 stops_soon limits bytes gone None h k = k
 stops_soon limits bytes gone (Some rest) h k = record { gone = gone; whole = k; soon = λ n refusal le. h n le refusal }
 
+-- at its end the file has the triples that were taken and the last ones
+pub finish_says : (reader : Reader) (last : Vec Triple Global) (limits : Limits) (taken : List Triple) (bytes : List ℕ) → reader.limits ≡ limits → HasRead reader taken bytes →
+    ((done : List Triple) (seen : List ℕ) → HasRead reader done seen → FinishSays reader.limits done seen (Ok last)) → FileSays limits bytes (Ok (taken ++ last.items))
+finish_says reader last limits taken bytes e h says = subst (λ l. FileSays l bytes (Ok (taken ++ last.items))) e (says taken bytes h)
+
 module _ {K : Type 0} (shelf : Shelf.Ghosts K) (old mid new : K) (limits : Limits) (name : List ℕ) (count : shelf.faults mid ≡ shelf.faults old)
     (asked : shelf.asked new ≡ Some name) (found : IfSome (shelf.held old) (λ files. shelf.rest mid ≡ Some (bytes_of files name))) where
   -- the graph was read so far, and no more than had to be
@@ -213,12 +276,12 @@ module _ {K : Type 0} (shelf : Shelf.Ghosts K) (old mid new : K) (limits : Limit
   )
 
   -- it was not read to its end
-  pub gives_no_more : (stop : GraphStop) (seen : Limits) (after : Reader) → seen ≡ limits → FeedsAll {A = Unit {0}} shelf mid new seen after (Err stop) →
-      GivesTriples shelf old new limits name (Err stop)
-  gives_no_more Failed seen after e h = (subst (λ n. Rose n (shelf.faults new)) count h.0, asked, h.1)
-  gives_no_more (Stopped NoMemory) seen after e h = h.0 ∙ count
-  gives_no_more (Stopped (Refused refusal)) seen after e h =
-      let k = subst (λ l. FeedsAll {A = Unit {0}} shelf mid new l after (Err (Stopped (Refused refusal)))) e h in (
+  pub gives_no_more : (stop : GraphStop) (seen : Limits) (after : Reader) (rows : Rows) → seen ≡ limits → FeedsAll {A = Unit {0}} shelf mid new seen after rows (Err stop) →
+      GivesRows shelf old new limits name (Err stop)
+  gives_no_more Failed seen after rows e h = (subst (λ n. Rose n (shelf.faults new)) count h.0, asked, h.1)
+  gives_no_more (Stopped NoMemory) seen after rows e h = h.0 ∙ count
+  gives_no_more (Stopped (Refused refusal)) seen after rows e h =
+      let k = subst (λ l. FeedsAll {A = Unit {0}} shelf mid new l after rows (Err (Stopped (Refused refusal)))) e h in (
         k.0 ∙ count,
         told_more (shelf.held old) _ _ (λ files r. refused_says limits (bytes_of files name) k.1.0 (shelf.rest new) refusal k.1.2 r)
             (told_file (shelf.held old) (shelf.rest mid) name (λ all. IsSomeAnd (shelf.rest new) (λ r. all ≡ k.1.0 ++ r)) found k.1.1),
@@ -226,14 +289,39 @@ module _ {K : Type 0} (shelf : Shelf.Ghosts K) (old mid new : K) (limits : Limit
       )
 
   -- it was read to its end, and then refused
-  pub gives_no_triples : (stop : ReadStop) (seen : Limits) (after : Reader) → seen ≡ limits → after.limits ≡ seen → FeedsAll {A = Unit {0}} shelf mid new seen after (Ok tt) →
-      ((bytes : List ℕ) → HasRead after bytes → FinishSays {A = Global} after.limits bytes (Err stop)) → GivesTriples shelf old new limits name (Err (Stopped stop))
-  gives_no_triples NoMemory seen after e same h says = h.0 ∙ count
-  gives_no_triples (Refused refusal) seen after e same h says =
-      let gone = h.1.0 in
-      let said : FileSays limits gone (Err refusal) = subst (λ l. FileSays l gone (Err refusal)) (same ∙ e) (says gone h.1.4) in (
+  pub gives_no_rows : (stop : ReadStop) (seen : Limits) (after : Reader) (rows : Rows) → seen ≡ limits → after.limits ≡ seen → FeedsAll {A = Unit {0}} shelf mid new seen after rows (Ok tt) →
+      ((taken : List Triple) (bytes : List ℕ) → HasRead after taken bytes → FinishSays {A = Global} after.limits taken bytes (Err stop)) → GivesRows shelf old new limits name (Err (Stopped stop))
+  gives_no_rows NoMemory seen after rows e same h says = h.0 ∙ count
+  gives_no_rows (Refused refusal) seen after rows e same h says =
+      let gone = h.1.1 in
+      let said : FileSays limits gone (Err refusal) = subst (λ l. FileSays l gone (Err refusal)) (same ∙ e) (says h.1.0 gone h.1.5) in (
         h.0 ∙ count,
         told_more (shelf.held old) _ _ (λ files k. subst (λ b. FileSays limits b (Err refusal)) (sym k) said)
-            (told_file (shelf.held old) (shelf.rest mid) name (λ all. all ≡ gone) found h.1.2),
-        graph_stops gone h.1.1 (λ n le. open_front limits gone (subst (λ l. IsOpen l gone) e h.1.3) n),
+            (told_file (shelf.held old) (shelf.rest mid) name (λ all. all ≡ gone) found h.1.3),
+        graph_stops gone h.1.2 (λ n le. open_front limits gone (subst (λ l. IsOpen l gone) e h.1.4) n),
       )
+
+  module _ (triples : List Triple) (seen : Limits) (after : Reader) (rows : Rows) (e : seen ≡ limits) (same : after.limits ≡ seen) (h : FeedsAll {A = Unit {0}} shelf mid new seen after rows (Ok tt))
+      (says : FileSays limits h.1.1 (Ok (h.1.0 ++ triples))) where
+    -- the last triples are few
+    pub last_few : limits.triples ≤ 2 ^ 22 → length rows.names + 3 * length triples < 2 ^ 32
+    last_few few =
+        let a = names_few rows h.1.0 h.1.6 in
+        let b = length-append h.1.0 triples in
+        let c = says.2 in
+        omega arith
+
+    -- it was read to its end
+    pub gives_rows : (more : Rows) → ((done : List Triple) → StandFor rows done → StandFor more (done ++ triples)) → GivesRows shelf old new limits name (Ok more)
+    gives_rows more adds = (
+      h.0 ∙ count,
+      (
+        h.1.0 ++ triples,
+        record {
+          stand = adds h.1.0 h.1.6;
+          few = says.2;
+          says = told_more (shelf.held old) _ _ (λ files k. subst (λ b. FileSays limits b (Ok (h.1.0 ++ triples))) (sym k) says)
+              (told_file (shelf.held old) (shelf.rest mid) name (λ all. all ≡ h.1.1) found h.1.3);
+        },
+      ),
+    )

@@ -3,5 +3,5 @@ pub mod Told
 pub mod FeedingLemmas
 pub mod Deciding
 pub mod Running
-pub mod Rows
+pub mod NumberedRows
 pub mod Reports

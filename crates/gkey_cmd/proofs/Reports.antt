@@ -24,15 +24,15 @@ use Rattle.gkey_cmd.specs.Matched.{IsReport, HasTooManyPairs}
 use Rattle.gkey_cmd.specs.Stops.{IsRightMatchStop}
 
 -- more candidates in one graph are more in the other
-more_too : (G F : NumberedGraph) (K : List Shape) (limit : ℕ) → AreSameGraph G F → HasMoreCandidates G K limit → HasMoreCandidates F K limit
+more_too : (G F : NumberedGraph) (K : List Shape) (limit : ℕ) → AreSameGraph K G F → HasMoreCandidates G K limit → HasMoreCandidates F K limit
 more_too G F K limit s h = record {
   pairs = h.pairs;
   ascending = h.ascending;
-  candidates = All-weaker (λ x. IsCandidate G K x.0 x.1) (λ x. IsCandidate F K x.0 x.1) (λ x c. candidate_too G F s.there K x.0 x.1 c) h.pairs h.candidates;
+  candidates = All-weaker (λ x. IsCandidate G K x.0 x.1) (λ x. IsCandidate F K x.0 x.1) (λ x c. candidate_too K G F s.there x.0 x.1 c) h.pairs h.candidates;
   more = h.more;
 }
 
-module _ (triples : List Triple) (keys : List KeyShape) (G : NumberedGraph) (names : List Term) (K : List Shape) (are_names : names ≡ names_for triples keys) (built : AreSameGraph G (graph_of names triples)) (are_patterns : K ≡ patterns_of names keys) where
+module _ (triples : List Triple) (keys : List KeyShape) (G : NumberedGraph) (names : List Term) (K : List Shape) (are_names : names ≡ names_for triples keys) (built : AreSameGraph K G (graph_of names triples)) (are_patterns : K ≡ patterns_of names keys) where
   pub has_names : length G.literal ≡ length names
   has_names = ap length built.there.literal ∙ length-map names is_literal
 
@@ -46,8 +46,8 @@ module _ (triples : List Triple) (keys : List KeyShape) (G : NumberedGraph) (nam
   same_of labels c a b la lb =
       let n = c.count ∙ has_names in
       let s = c.same a b (omega arith) (omega arith) in (
-        (λ t. same_too G (graph_of names triples) built.there K a b (s.0 (eqb-true (slice_index labels a) (slice_index labels b) t))),
-        (λ k. eq-eqb (slice_index labels a) (slice_index labels b) (s.1 (same_too (graph_of names triples) G built.back K a b k))),
+        (λ t. same_too K G (graph_of names triples) built.there a b (s.0 (eqb-true (slice_index labels a) (slice_index labels b) t))),
+        (λ k. eq-eqb (slice_index labels a) (slice_index labels b) (s.1 (same_too K (graph_of names triples) G built.back a b k))),
       )
 
   pub report_is : (labels text : List ℕ) → AreClasses G K labels → text ≡ report_text (texts_of names) (λ a b. slice_index labels a == slice_index labels b) → IsReport triples keys text

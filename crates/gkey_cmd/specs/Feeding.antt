@@ -1,6 +1,5 @@
 -- What the private functions answer that read a graph piece by piece: this project's own words.
-use Rattle.std.specs.Prelude.{List, [], ℕ, true, ◌≡◌, ◌≤◌, ◌+◌, ◌++◌, length, take, Result, Ok, Err, Vec, vec_items, Some, IfSome, IsSomeAnd, IsTrue}
-use Rattle.std.specs.declared.alloc.Global.{Global}
+use Rattle.std.specs.Prelude.{List, [], ℕ, true, ◌≡◌, ◌≤◌, ◌+◌, ◌++◌, length, take, Result, Ok, Err, Some, IfSome, IsSomeAnd, IsTrue}
 use Rattle.gk_base.specs.declared.limits.Limits.{Limits}
 use Rattle.gk_base.specs.declared.read_fault.ReadRefusal.{ReadRefusal}
 use Rattle.gk_base.specs.declared.read_fault.ReadStop.TheVariants.{NoMemory, Refused}
@@ -12,7 +11,9 @@ use Rattle.nt_reader.specs.File.{Refuses}
 use Rattle.nt_reader.specs.Kept.{HasRead, IsStopped}
 use Rattle.nt_reader.specs.declared.reader.Reader.{Reader}
 use Rattle.gkey_cmd.specs.Pieces.{GraphStops}
+use Rattle.gkey_cmd.specs.Rows.{StandFor}
 use Rattle.gkey_cmd.specs.Reading.{GraphSays}
+use Rattle.gkey_cmd.specs.declared.rows.Rows.{Rows}
 use Rattle.gkey_cmd.specs.declared.pieces.GraphStop.{GraphStop}
 use Rattle.gkey_cmd.specs.declared.pieces.GraphStop.TheVariants.{Failed, Stopped}
 
@@ -33,7 +34,7 @@ pub record Feeds {K : Type 0} (shelf : Shelf.Ghosts K) (old new : K) (room : ℕ
   pub count : shelf.faults new ≡ shelf.faults old
   pub read : WereRead shelf old new piece
   pub within : length piece ≤ room
-  pub fed : (seen : List ℕ) → HasRead before seen → HasRead after (seen ++ piece)
+  pub fed : (taken : List Triple) (seen : List ℕ) → HasRead before taken seen → HasRead after taken (seen ++ piece)
 
 -- a piece of so many bytes was read and fed, or why not
 abbrev pub FeedsNext : {K : Type 0} (shelf : Shelf.Ghosts K) (old new : K) (room : ℕ) (before after : Reader) → Result ℕ GraphStop → Type 0
@@ -41,23 +42,29 @@ FeedsNext shelf old new room before after (Ok n) = (piece : List ℕ) × Feeds s
     × (n ≡ length piece) × (before.running ≡ true) × (after.running ≡ true) × (n ≡ 0 → AreAll shelf old [])
 FeedsNext shelf old new room before after (Err Failed) = Rose (shelf.faults old) (shelf.faults new) × IsTrue (shelf.bad new)
 FeedsNext shelf old new room before after (Err (Stopped stop)) = (piece : List ℕ) × Feeds shelf old new room before after piece
-    × ((bytes : List ℕ) → HasRead after bytes → IsStopped after.limits bytes stop)
+    × ((taken : List Triple) (bytes : List ℕ) → HasRead after taken bytes → IsStopped after.limits bytes stop)
 
--- all that was left was read and fed, or why not
-abbrev pub FeedsAll : {K A : Type 0} (shelf : Shelf.Ghosts K) (old new : K) (limits : Limits) (after : Reader) → Result A GraphStop → Type 0
-FeedsAll shelf old new limits after (Ok x) = (shelf.faults new ≡ shelf.faults old)
-    × ((gone : List ℕ) × WereRead shelf old new gone × AreAll shelf old gone × IsOpen limits gone × HasRead after gone)
-FeedsAll shelf old new limits after (Err Failed) = Rose (shelf.faults old) (shelf.faults new) × IsTrue (shelf.bad new)
-FeedsAll shelf old new limits after (Err (Stopped stop)) = (shelf.faults new ≡ shelf.faults old)
+-- all that was left was read, fed and numbered, or why not
+abbrev pub FeedsAll : {K A : Type 0} (shelf : Shelf.Ghosts K) (old new : K) (limits : Limits) (after : Reader) (rows : Rows) → Result A GraphStop → Type 0
+FeedsAll shelf old new limits after rows (Ok x) = (shelf.faults new ≡ shelf.faults old)
+    × ((taken : List Triple) × (gone : List ℕ) × WereRead shelf old new gone × AreAll shelf old gone × IsOpen limits gone
+    × HasRead after taken gone × StandFor rows taken)
+FeedsAll shelf old new limits after rows (Err Failed) = Rose (shelf.faults old) (shelf.faults new) × IsTrue (shelf.bad new)
+FeedsAll shelf old new limits after rows (Err (Stopped stop)) = (shelf.faults new ≡ shelf.faults old)
     × ((gone : List ℕ) × WereRead shelf old new gone × IsStopped limits gone stop
     × ((n : ℕ) → n + 65536 ≤ length gone → IsOpen limits (take n gone)))
 
--- the triples of the graph of this name, or why they are not to be had
-abbrev pub GivesTriples : {K : Type 0} (shelf : Shelf.Ghosts K) (old new : K) (limits : Limits) (name : List ℕ) → Result (Vec Triple Global) GraphStop → Type 0
-GivesTriples shelf old new limits name (Ok triples) = (shelf.faults new ≡ shelf.faults old) × (length (vec_items triples) ≤ limits.triples)
-    × IfSome (shelf.held old) (λ files. GraphSays limits (bytes_of files name) (Ok (vec_items triples)))
-GivesTriples shelf old new limits name (Err Failed) = Rose (shelf.faults old) (shelf.faults new)
+-- these are the triples of the graph of this name, and the rows stand for them
+pub record AreRowsOf {K : Type 0} (shelf : Shelf.Ghosts K) (old : K) (limits : Limits) (name : List ℕ) (rows : Rows) (triples : List Triple) : Type 0 where
+  pub stand : StandFor rows triples
+  pub few : length triples ≤ limits.triples
+  pub says : IfSome (shelf.held old) (λ files. GraphSays limits (bytes_of files name) (Ok triples))
+
+-- the rows of the graph of this name, or why they are not to be had
+abbrev pub GivesRows : {K : Type 0} (shelf : Shelf.Ghosts K) (old new : K) (limits : Limits) (name : List ℕ) → Result Rows GraphStop → Type 0
+GivesRows shelf old new limits name (Ok rows) = (shelf.faults new ≡ shelf.faults old) × ((triples : List Triple) × AreRowsOf shelf old limits name rows triples)
+GivesRows shelf old new limits name (Err Failed) = Rose (shelf.faults old) (shelf.faults new)
     × (shelf.asked new ≡ Some name) × IsTrue (shelf.bad new)
-GivesTriples shelf old new limits name (Err (Stopped NoMemory)) = shelf.faults new ≡ shelf.faults old
-GivesTriples shelf old new limits name (Err (Stopped (Refused refusal))) = (shelf.faults new ≡ shelf.faults old)
+GivesRows shelf old new limits name (Err (Stopped NoMemory)) = shelf.faults new ≡ shelf.faults old
+GivesRows shelf old new limits name (Err (Stopped (Refused refusal))) = (shelf.faults new ≡ shelf.faults old)
     × IfSome (shelf.held old) (λ files. GraphSays limits (bytes_of files name) (Err refusal)) × GraphStops shelf old new limits name

@@ -1,6 +1,7 @@
 pub mod Files
 pub mod Commands
 pub mod Numbered
+pub mod Rows
 pub mod Matched
 pub mod Reading
 pub mod Pieces

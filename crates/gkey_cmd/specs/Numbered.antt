@@ -1,10 +1,12 @@
 -- A graph and its keys in numbers.
-use Rattle.std.specs.Prelude.{List, [], ◌∷◌, ◌++◌, ℕ, Option, Some, None, map, flat_map, codes, if◌then◌else◌}
+use Rattle.std.specs.Prelude.{List, [], ◌∷◌, ◌++◌, ℕ, Option, Some, None, map, flat_map, codes, if◌then◌else◌, ◌≡◌, ◌⊎◌}
 use Rattle.gk_base.specs.Term.{is_literal}
 use Rattle.gk_base.specs.declared.term.Term.{Term}
 use Rattle.gk_base.specs.declared.term.Term.TheVariants.{Iri}
 use Rattle.gk_base.specs.declared.term.Triple.{Triple}
-use Rattle.chase_laws.specs.Graph.{NumberedGraph, HasRowsOf}
+use Rattle.chase_laws.specs.Shape.{Shape}
+use Rattle.chase_laws.specs.Graph.{NumberedGraph}
+use Rattle.chase_laws.specs.SameRows.{AreUnfolded, HasRowsOf}
 use Rattle.term_table.specs.Numbering.{is_named, place_of, names_of}
 use Rattle.term_table.specs.Folding.{folds_of}
 use Rattle.key_file.specs.KeyShape.{KeyShape}
@@ -45,7 +47,12 @@ graph_of names triples = record {
   alike = folds_of names;
 }
 
--- two graphs with the same rows, in whatever order and however often, and else equal
-pub record AreSameGraph (G F : NumberedGraph) : Type 0 where
-  pub there : HasRowsOf G F
-  pub back : HasRowsOf F G
+-- What the names are alike to, or any numbers where no key asks for it.
+abbrev pub AreAlikeFor : List Term → List Shape → List ℕ → Type 0
+AreAlikeFor names K numbers = (numbers ≡ folds_of names) ⊎ AreUnfolded K
+
+-- two graphs that are the same for keys: with the same rows, in whatever order and however often, and else equal, but for
+-- what names are alike to where no key asks for it
+pub record AreSameGraph (K : List Shape) (G F : NumberedGraph) : Type 0 where
+  pub there : HasRowsOf K G F
+  pub back : HasRowsOf K F G

@@ -5,9 +5,10 @@
 //! - `words`: the commands and the words that ask for them
 //! - `file`: the files that a command reads
 //! - `load`: a file's bytes
-//! - `pieces`: a graph's triples, read piece by piece
+//! - `rows`: triples in numbers
+//! - `pieces`: a graph's rows, read piece by piece
 //! - `reading`: what a file says, or why it is refused
-//! - `numbering`: names, rows and patterns in numbers
+//! - `numbering`: names, graph and patterns in numbers
 //! - `matched`: what `match` prints
 //! - `ending`: how a run ends, and what it leaves
 //! - `top`: `run`
@@ -20,6 +21,7 @@ mod matched;
 mod numbering;
 mod pieces;
 mod reading;
+mod rows;
 mod top;
 mod words;
 

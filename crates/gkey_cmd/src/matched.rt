@@ -1,13 +1,16 @@
 //! What `match` prints.
 
-ghost use Rattle.std.specs.Prelude.{◌≡◌, ◌≤◌, ◌<◌, ◌^◌, ◌-◌, length, IfOk, IfErr, OnOk};
+ghost use Rattle.std.specs.Prelude.{◌≡◌, ◌<◌, ◌^◌, ◌-◌, List, IfOk, IfErr, OnOk};
+ghost use Rattle.gk_base.specs.declared.term.Triple.{Triple as AnyTriple};
 ghost use Rattle.gkey_cmd.specs.Matched.{IsReport, HasTooManyPairs};
 ghost use Rattle.gkey_cmd.specs.Reading.{MorePairsThan, refused_text};
+ghost use Rattle.gkey_cmd.specs.Rows.{StandFor, AreFew};
 ghost use Rattle.gkey_cmd.specs.Stops.{IsRightMatchStop, MatchEnds};
 
 use crate::ending::Ending;
 use crate::numbering::number;
-use gk_base::{NoMemory, Triple};
+use crate::rows::Rows;
+use gk_base::NoMemory;
 use key_lang::KeyFile;
 use match_run::classes;
 use pair_seed::SeedStop;
@@ -17,19 +20,14 @@ use term_text::report;
 /// The report of the classes of equal entities.
 ///
 /// `TooManyPairs` comes exactly where there are more candidate pairs than `limit`, and `NoMemory` where memory ran out.
-fn report_of(
-    alloc: Global,
-    triples: Vec<Triple>,
-    keys: &KeyFile,
-    limit: u64,
-) -> Result<Vec<u8>, SeedStop>
-    requires few { length triples.items ≤ 2 ^ 22 }
+fn report_of(alloc: Global, rows: Rows, keys: &KeyFile, limit: u64) -> Result<Vec<u8>, SeedStop>
+    requires few { AreFew rows }
     requires limit { limit < 2 ^ 32 }
-    ensures report { IfOk result (λ text. IsReport triples.items keys.now text.items) }
-    ensures no_more { OnOk result (¬ (HasTooManyPairs triples.items keys.now limit)) }
-    ensures stop { IfErr result (IsRightMatchStop triples.items keys.now limit) }
+    ensures report { IfOk result (λ text. (triples : List AnyTriple) → StandFor rows triples → IsReport triples keys.now text.items) }
+    ensures no_more { OnOk result ((triples : List AnyTriple) → StandFor rows triples → ¬ (HasTooManyPairs triples keys.now limit)) }
+    ensures stop { IfErr result (λ stop. (triples : List AnyTriple) → StandFor rows triples → IsRightMatchStop triples keys.now limit stop) }
 {
-    let numbered = number(alloc, triples, keys)?;
+    let numbered = number(alloc, rows, keys)?;
     let labels = classes(alloc, numbered.graph, numbered.patterns, limit)?;
     let report = report(alloc, &numbered.names, &labels)?;
     Ok(report.into_vec())
@@ -46,17 +44,12 @@ fn pairs_text(alloc: Global, limit: u64) -> Result<Vec<u8>, NoMemory>
 }
 
 /// The report of a match whose files are read, or the ending of a run that has none.
-pub fn match_files(
-    alloc: Global,
-    triples: Vec<Triple>,
-    keys: &KeyFile,
-    limit: u64,
-) -> Result<Vec<u8>, Ending>
-    requires few { length triples.items ≤ 2 ^ 22 }
+pub fn match_files(alloc: Global, rows: Rows, keys: &KeyFile, limit: u64) -> Result<Vec<u8>, Ending>
+    requires few { AreFew rows }
     requires limit { limit < 2 ^ 32 }
-    ensures { MatchEnds triples.items keys.now limit result }
+    ensures { (triples : List AnyTriple) → StandFor rows triples → MatchEnds triples keys.now limit result }
 {
-    match report_of(alloc, triples, keys, limit) {
+    match report_of(alloc, rows, keys, limit) {
         Ok(text) => Ok(text),
         Err(SeedStop::NoMemory) => Err(Ending::NoMemory),
         Err(SeedStop::TooManyPairs { .. }) => match pairs_text(alloc, limit) {

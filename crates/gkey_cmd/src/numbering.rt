@@ -1,13 +1,17 @@
 //! A graph and its keys in numbers.
 
-ghost use Rattle.std.specs.Prelude.{◌≡◌, ◌<◌, ◌≤◌, ◌+◌, ◌-◌, ◌*◌, ◌^◌, [], map, length, IfOk, OnOk};
+ghost use Rattle.std.specs.Prelude.{◌≡◌, ◌≢◌, ◌<◌, ◌≤◌, ◌+◌, ◌-◌, ◌^◌, ℕ, List, map, length, slice_get, slice_index, Some, false, IfOk};
 ghost use Rattle.gk_base.specs.Term.{is_literal};
-ghost use Rattle.term_table.specs.Numbering.{with_terms, names_of};
-ghost use Rattle.key_file.specs.Compile.{patterns_of};
-ghost use Rattle.gkey_cmd.specs.Numbered.{triple_terms, terms_of, names_for, row_of, type_number, graph_of, AreSameGraph};
+ghost use Rattle.gk_base.specs.declared.term.Triple.{Triple as AnyTriple};
+ghost use Rattle.chase_laws.specs.SameRows.{IsUnfolded, AreUnfolded};
+ghost use Rattle.chase_laws.specs.declared.pattern.Slot.TheVariants.{Folded};
+ghost use Rattle.term_table.specs.Folding.{IsLiteralAt};
+ghost use Rattle.gkey_cmd.specs.Numbered.{type_number, AreAlikeFor};
+ghost use Rattle.gkey_cmd.specs.Rows.{StandFor, AreFew, IsNumbered};
 
-use chase_laws::Pattern;
-use gk_base::{NoMemory, Term, Text, Triple};
+use crate::rows::Rows;
+use chase_laws::{Pattern, Slot};
+use gk_base::{NoMemory, Term, Text};
 use key_lang::{KeyFile, compile};
 use std::alloc::Global;
 use term_table::Names;
@@ -22,38 +26,6 @@ pub struct Numbered {
     pub names: Names,
     pub graph: Graph,
     pub patterns: Vec<Pattern>,
-}
-
-/// A triple in numbers. Its terms become names.
-fn row_of(names: &mut Names, triple: Triple) -> Result<[u32; 3], NoMemory>
-    requires { length names.old + 3 < 2 ^ 32 }
-    ensures names { OnOk result (names.new ≡ with_terms names.old (triple_terms triple)) }
-    ensures row { IfOk result (λ row. row ≡ row_of names.new triple) }
-{
-    let subject = names.intern(triple.subject)?;
-    let predicate = names.intern(triple.predicate)?;
-    let object = names.intern(triple.object)?;
-    Ok([subject, predicate, object])
-}
-
-/// The triples in numbers, in their order. Their terms become names.
-fn rows_of(
-    alloc: Global,
-    triples: Vec<Triple>,
-    names: &mut Names,
-) -> Result<Vec<[u32; 3]>, NoMemory>
-    requires empty { names.old ≡ [] }
-    requires few { length triples.items ≤ 2 ^ 22 }
-    ensures names { OnOk result (names.new ≡ names_of (terms_of triples.items)) }
-    ensures rows { IfOk result (λ rows. rows.items ≡ map (row_of names.new) triples.items) }
-{
-    let mut left = triples;
-    left.reverse();
-    let mut rows = Vec::with_capacity(alloc, left.len())?;
-    while let Some(triple) = left.pop() {
-        rows.push(row_of(names, triple)?)?;
-    }
-    Ok(rows)
 }
 
 /// A flag for each name that tells whether it is a literal.
@@ -75,21 +47,70 @@ fn type_number(alloc: Global, names: &Names) -> Result<Option<u32>, NoMemory>
     Ok(names.find(&rdf_type))
 }
 
-/// The graph of these triples and the keys' patterns, in numbers.
-pub fn number(alloc: Global, triples: Vec<Triple>, keys: &KeyFile) -> Result<Numbered, NoMemory>
-    requires few { length triples.items ≤ 2 ^ 22 }
-    ensures names { IfOk result (λ n. n.names ≡ names_for triples.items keys.now) }
-    ensures graph { IfOk result (λ n. AreSameGraph n.graph (graph_of n.names triples.items)) }
-    ensures patterns { IfOk result (λ n. n.patterns.items ≡ patterns_of n.names keys.now) }
+/// Whether some slot is a folded value variable.
+fn has_folded(slots: &[Slot]) -> bool
+    ensures { result ≡ false → (s : ℕ) → slice_get slots.now s ≢ Some Folded }
+{
+    for slot in slots {
+        if let Slot::Folded = slot {
+            return true;
+        }
+    }
+    false
+}
+
+/// Whether some key has a folded value variable.
+fn have_folded(patterns: &[Pattern]) -> bool
+    ensures { result ≡ false → AreUnfolded patterns.now }
+{
+    for pattern in patterns {
+        if has_folded(&pattern.slots) {
+            return true;
+        }
+    }
+    false
+}
+
+/// For each name its own number.
+fn own_numbers(alloc: Global, count: u32) -> Result<Vec<u32>, NoMemory>
+    ensures len { IfOk result (λ numbers. length numbers.items ≡ count) }
+    ensures own { IfOk result (λ numbers. (n : ℕ) → n < count → slice_index numbers.items n ≡ n) }
+{
+    Ok((0..count).collect(alloc)?)
+}
+
+/// What each name is alike to. Only folded value variables ask for it, so where the keys have none, each name is alike to
+/// itself alone, and no literal is folded.
+fn alike_for(alloc: Global, names: &Names, patterns: &[Pattern]) -> Result<Vec<u32>, NoMemory>
+    ensures value { IfOk result (λ numbers. AreAlikeFor names.now patterns.now numbers.items) }
+    ensures one_each { IfOk result (λ numbers. length numbers.items ≡ length names.now) }
+    ensures not_above { IfOk result (λ numbers. (n : ℕ) → n < length names.now → slice_index numbers.items n ≤ n) }
+    ensures itself { IfOk result (λ numbers. (n : ℕ) → n < length names.now →
+        slice_index numbers.items (slice_index numbers.items n) ≡ slice_index numbers.items n) }
+    ensures literals { IfOk result (λ numbers. (n : ℕ) →
+        IsLiteralAt names.now n → IsLiteralAt names.now (slice_index numbers.items n)) }
+    ensures others { IfOk result (λ numbers. (n : ℕ) → n < length names.now →
+        ¬ (IsLiteralAt names.now n) → slice_index numbers.items n ≡ n) }
+{
+    if have_folded(patterns) {
+        names.alike()
+    } else {
+        own_numbers(alloc, names.len())
+    }
+}
+
+/// The graph of these rows and the keys' patterns, in numbers.
+pub fn number(alloc: Global, rows: Rows, keys: &KeyFile) -> Result<Numbered, NoMemory>
+    requires few { AreFew rows }
+    ensures numbered { IfOk result (λ n. (triples : List AnyTriple) → StandFor rows triples → IsNumbered n triples keys.now) }
     ensures few_patterns { IfOk result (λ n. length n.patterns.items < 2 ^ 32) }
 {
-    let mut names = Names::new(alloc);
-    let rows = rows_of(alloc, triples, &mut names)?;
+    let Rows { mut names, rows } = rows;
     let _ = keys.keys();
     let patterns = compile(alloc, keys, &mut names)?;
     let literal = literal_flags(alloc, &names)?;
     let rdf_type = type_number(alloc, &names)?;
-    let alike = names.alike()?;
+    let alike = alike_for(alloc, &names, &patterns)?;
     let graph = Graph::build(alloc, rows, names.len(), literal, rdf_type, alike)?;
     Ok(Numbered {
         names,

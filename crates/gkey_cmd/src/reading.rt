@@ -1,16 +1,19 @@
 //! What the files of a command say.
 
-ghost use Rattle.std.specs.Prelude.{◌≡◌, ◌≤◌, ◌^◌, length, IfOk, Ok, Err, vec_items, Some};
+ghost use Rattle.std.specs.Prelude.{◌≡◌, List, IfOk, Ok, Err, Some};
+ghost use Rattle.gk_base.specs.declared.term.Triple.{Triple as AnyTriple};
 ghost use Rattle.gk_io.specs.Files.{bytes_of};
-ghost use Rattle.gkey_cmd.specs.Reading.{InGraph, InKeys, line_text, GraphSays, KeysSay};
+ghost use Rattle.gkey_cmd.specs.Reading.{InGraph, InKeys, line_text, IsAccepted, KeysSay};
 ghost use Rattle.gkey_cmd.specs.Written.{AreWithin};
+ghost use Rattle.gkey_cmd.specs.Feeding.{AreRowsOf};
 ghost use Rattle.gkey_cmd.specs.Causes.{ReadBy};
 
 use crate::ending::Ending;
 use crate::file::File;
 use crate::load::{LoadStop, load};
-use crate::pieces::{GraphStop, read_triples};
-use gk_base::{Limits, NoMemory, ReadStop, Text, Triple};
+use crate::pieces::{GraphStop, read_rows};
+use crate::rows::Rows;
+use gk_base::{Limits, NoMemory, ReadStop, Text};
 use gk_io::Shelf;
 use key_lang::{KeyFile, KeyStop};
 use std::alloc::Global;
@@ -28,21 +31,21 @@ fn line_text(alloc: Global, file: File, line: u64, fault: &[u8]) -> Result<Vec<u
     Ok(text)
 }
 
-/// The triples of the graph, or the ending of a run that can't have them.
+/// The triples of the graph in numbers, or the ending of a run that can't have them.
 pub fn read_graph<S: Shelf>(
     alloc: Global,
     shelf: &mut S,
     name: &Text,
     limits: &Limits,
-) -> Result<Vec<Triple>, Ending>
+) -> Result<Rows, Ending>
     requires { AreWithin limits.now }
     ensures held { S.held shelf.new ≡ S.held shelf.old }
     ensures cases { ReadBy S.Shelf shelf.old shelf.new File.Graph name.now limits.now
-        (λ files triples. GraphSays limits.now (bytes_of files name.now) (Ok (vec_items triples))) result }
-    ensures few { IfOk result (λ triples. length triples.items ≤ 2 ^ 22) }
+        (λ files rows. IsAccepted limits.now files File.Graph name.now) result }
+    ensures rows { IfOk result (λ rows. (triples : List AnyTriple) × AreRowsOf S.Shelf shelf.old limits.now name.now rows triples) }
 {
-    match read_triples(alloc, shelf, name, limits) {
-        Ok(triples) => Ok(triples),
+    match read_rows(alloc, shelf, name, limits) {
+        Ok(rows) => Ok(rows),
         Err(GraphStop::Failed) => Err(Ending::Failed(File::Graph)),
         Err(GraphStop::Stopped(ReadStop::NoMemory)) => Err(Ending::NoMemory),
         Err(GraphStop::Stopped(ReadStop::Refused(refusal))) => {

@@ -35,9 +35,9 @@ fn matched<S: Shelf>(
     ensures { let Stops = Stopped S.Shelf shelf.old shelf.new (Matching graph.now keys.now) limits.now in
         MatchResult result (λ text. Stops (Ending.Done Answer.Given text)) Stops }
 {
-    let triples = read_graph(alloc, shelf, graph, limits)?;
+    let rows = read_graph(alloc, shelf, graph, limits)?;
     let read = read_keys(alloc, shelf, keys, limits)?;
-    match_files(alloc, triples, &read, limits.pairs)
+    match_files(alloc, rows, &read, limits.pairs)
 }
 
 /// How a run ends before anything is written.

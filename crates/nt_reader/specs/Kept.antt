@@ -9,32 +9,33 @@ use Rattle.nt_reader.specs.declared.reader.Reader.{Reader}
 use Rattle.nt_reader.specs.Lines.{cut_of}
 use Rattle.nt_reader.specs.File.{AreGood, FileSays, Refuses}
 
--- the state after these bytes, where nothing was refused
-pub record Stands (limits : Limits) (state : State) (bytes : List ℕ) : Type 0 where
+-- the state after these bytes, where nothing was refused and these triples were taken
+pub record Stands (limits : Limits) (state : State) (taken : List Triple) (bytes : List ℕ) : Type 0 where
   pub count : state.bytes ≡ length bytes
   pub within : length bytes ≤ limits.bytes
   pub rest : state.kept.items ≡ (cut_of bytes).rest
   pub line : state.line ≡ length (cut_of bytes).ended + 1
   pub returned : state.after_return ≡ (cut_of bytes).returned
-  pub good : AreGood (cut_of bytes).ended state.triples.items
-  pub few : length state.triples.items ≤ limits.triples
+  pub good : AreGood (cut_of bytes).ended (taken ++ state.triples.items)
+  pub room : length taken + state.room ≡ limits.triples
+  pub few : length state.triples.items ≤ state.room
 
 -- these bytes were refused, or memory ran out
 abbrev pub IsStopped : Limits → List ℕ → ReadStop → Type 0
 IsStopped limits bytes NoMemory = Unit {0}
 IsStopped limits bytes (Refused refusal) = Refuses limits bytes refusal
 
--- the reader was fed pieces that are these bytes in a row
-abbrev pub HasRead : Reader → List ℕ → Type 0
-HasRead reader bytes = cond reader.running (Stands reader.limits reader.state bytes) (IsStopped reader.limits bytes reader.stop)
+-- the reader was fed pieces that are these bytes in a row, and of their triples these were taken
+abbrev pub HasRead : Reader → List Triple → List ℕ → Type 0
+HasRead reader taken bytes = cond reader.running (Stands reader.limits reader.state taken bytes) (IsStopped reader.limits bytes reader.stop)
 
 -- a call on the state that has seen some bytes, after which it has seen one piece more
 abbrev pub Takes : {A : Type 0} → Limits → State → State → List ℕ → Result A ReadStop → Type 0
-Takes limits old new piece (Ok x) = (seen : List ℕ) → Stands limits old seen → Stands limits new (seen ++ piece)
-Takes limits old new piece (Err stop) = (seen : List ℕ) → Stands limits old seen → IsStopped limits (seen ++ piece) stop
+Takes limits old new piece (Ok x) = (taken : List Triple) (seen : List ℕ) → Stands limits old taken seen → Stands limits new taken (seen ++ piece)
+Takes limits old new piece (Err stop) = (taken : List Triple) (seen : List ℕ) → Stands limits old taken seen → IsStopped limits (seen ++ piece) stop
 
--- the answer at the end is what the file of these bytes says
-abbrev pub FinishSays : {A : Type 0} → Limits → List ℕ → Result (Vec Triple A) ReadStop → Type 0
-FinishSays limits bytes (Ok triples) = FileSays limits bytes (Ok triples.items)
-FinishSays limits bytes (Err NoMemory) = Unit {0}
-FinishSays limits bytes (Err (Refused refusal)) = FileSays limits bytes (Err refusal)
+-- the answer at the end, with the triples that were taken, is what the file of these bytes says
+abbrev pub FinishSays : {A : Type 0} → Limits → List Triple → List ℕ → Result (Vec Triple A) ReadStop → Type 0
+FinishSays limits taken bytes (Ok triples) = FileSays limits bytes (Ok (taken ++ triples.items))
+FinishSays limits taken bytes (Err NoMemory) = Unit {0}
+FinishSays limits taken bytes (Err (Refused refusal)) = FileSays limits bytes (Err refusal)

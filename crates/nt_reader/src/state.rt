@@ -12,8 +12,10 @@ use std::alloc::Global;
 /// What is kept of the pieces so far.
 #[derive(Drop)]
 pub(crate) struct State {
-    /// Of the lines that have ended.
+    /// Of the lines that have ended, less those that were taken.
     pub(crate) triples: Vec<Triple>,
+    /// How many triples there may be beside those that were taken.
+    pub(crate) room: u64,
     /// The front of a line that no piece has held whole.
     pub(crate) kept: Vec<u8>,
     /// How many bytes have come.
@@ -32,18 +34,13 @@ fn refused(line: u64, fault: ReadFault) -> ReadStop
 }
 
 /// Adds the triple of this line, where there may be one more.
-fn add(
-    limits: &Limits,
-    triples: &mut Vec<Triple>,
-    number: u64,
-    triple: Triple,
-) -> Result<(), ReadStop>
+fn add(room: u64, triples: &mut Vec<Triple>, number: u64, triple: Triple) -> Result<(), ReadStop>
     ensures ok { OnOk result (triples.new.items ≡ triples.old.items ++ triple ∷ []) }
-    ensures few { OnOk result (length triples.new.items ≤ limits.now.triples) }
-    ensures full { (refusal : ReadRefusal) → result ≡ Err (ReadStop.Refused refusal) → limits.now.triples ≤ length triples.old.items }
+    ensures few { OnOk result (length triples.new.items ≤ room) }
+    ensures full { (refusal : ReadRefusal) → result ≡ Err (ReadStop.Refused refusal) → room ≤ length triples.old.items }
     ensures refused { (refusal : ReadRefusal) → result ≡ Err (ReadStop.Refused refusal) → refusal ≡ record { line = number; fault = ReadFault.TooManyTriples } }
 {
-    if triples.as_slice().len() as u64 >= limits.triples {
+    if triples.as_slice().len() as u64 >= room {
         return Err(refused(number, ReadFault::TooManyTriples));
     }
     match triples.push(triple) {
@@ -55,41 +52,43 @@ fn add(
 /// Judges the line of this content.
 fn judge(
     alloc: Global,
-    limits: &Limits,
+    room: u64,
     triples: &mut Vec<Triple>,
     number: u64,
     content: &[u8],
 ) -> Result<(), ReadStop>
-    ensures { Judges limits.now.triples triples.old.items triples.new.items content.now number result }
+    ensures { Judges room triples.old.items triples.new.items content.now number result }
 {
     match read_line(alloc, content) {
         Ok(None) => Ok(()),
-        Ok(Some(triple)) => add(limits, triples, number, triple),
+        Ok(Some(triple)) => add(room, triples, number, triple),
         Err(LexStop::NoMemory) => Err(ReadStop::NoMemory),
         Err(LexStop::Fault(fault)) => Err(refused(number, ReadFault::Lex(fault))),
     }
 }
 
 /// Judges the line that ends with this part.
-pub(crate) fn end_line(
-    alloc: Global,
-    limits: &Limits,
-    state: &mut State,
-    part: &[u8],
-) -> Result<(), ReadStop>
+pub(crate) fn end_line(alloc: Global, state: &mut State, part: &[u8]) -> Result<(), ReadStop>
     ensures bytes { state.new.bytes ≡ state.old.bytes }
     ensures line { state.new.line ≡ state.old.line }
     ensures returned { state.new.after_return ≡ state.old.after_return }
+    ensures room { state.new.room ≡ state.old.room }
     ensures kept { OnOk result (state.new.kept.items ≡ []) }
-    ensures judged { Judges limits.now.triples state.old.triples.items state.new.triples.items (state.old.kept.items ++ part.now) state.old.line result }
+    ensures judged { Judges state.old.room state.old.triples.items state.new.triples.items (state.old.kept.items ++ part.now) state.old.line result }
 {
     if state.kept.is_empty() {
-        return judge(alloc, limits, &mut state.triples, state.line, part);
+        return judge(alloc, state.room, &mut state.triples, state.line, part);
     }
     if state.kept.extend_from_slice(part).is_err() {
         return Err(ReadStop::NoMemory);
     }
-    judge(alloc, limits, &mut state.triples, state.line, &state.kept)?;
+    judge(
+        alloc,
+        state.room,
+        &mut state.triples,
+        state.line,
+        &state.kept,
+    )?;
     state.kept.clear();
     Ok(())
 }
@@ -120,7 +119,7 @@ fn take(alloc: Global, limits: &Limits, state: &mut State, piece: &[u8]) -> Resu
             };
             return Ok(());
         }
-        match end_line(alloc, limits, state, &piece[from..end]) {
+        match end_line(alloc, state, &piece[from..end]) {
             Ok(()) => {}
             Err(stop) => return Err(stop),
         }

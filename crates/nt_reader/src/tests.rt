@@ -128,7 +128,24 @@ fn byte_by_byte(alloc: Global, limits: &Limits, text: &[u8]) -> Result<Vec<Tripl
     reader.finish()
 }
 
-/// Whether this is the answer to the file whole, byte by byte and cut at each place.
+/// The same, with the triples of each line taken as soon as it has ended.
+fn taken_as_they_come(alloc: Global, limits: &Limits, text: &[u8]) -> Result<Vec<Triple>, ReadStop>
+    requires { limits.now.bytes + 1 < 2 ^ 64 }
+{
+    let mut reader = Reader::new(alloc, limits);
+    let mut triples = Vec::new(alloc);
+    'bytes: for b in text {
+        let piece = [*b];
+        let _ = reader.feed(&piece);
+        let mut taken = Vec::new(alloc);
+        reader.take_triples(&mut taken);
+        triples.append(&mut taken)?;
+    }
+    triples.append(&mut reader.finish()?)?;
+    Ok(triples)
+}
+
+/// Whether this is the answer to the file whole, byte by byte, cut at each place, and taken line by line.
 fn answers(alloc: Global, bytes: u64, triples: u64, text: &[u8], expected: &Expected<'_>) -> bool
     requires { bytes < 1000000 }
 {
@@ -145,6 +162,7 @@ fn answers(alloc: Global, bytes: u64, triples: u64, text: &[u8], expected: &Expe
     }
     is_expected(in_pieces(alloc, &limits, text, b"", b""), expected)
         && is_expected(byte_by_byte(alloc, &limits, text), expected)
+        && is_expected(taken_as_they_come(alloc, &limits, text), expected)
 }
 
 fn joined(alloc: Global, front: &[u8], back: &[u8]) -> Result<Vec<u8>, AllocError> {

@@ -7,21 +7,31 @@ use Rattle.gkey_cmd.proofs.matched.report_of.Goals as goal
 
 pub returns-in_err-labels-clause-stop : goal.returns-in_err-labels-clause-stop
 returns-in_err-labels-clause-stop c =
-    let n = c.in_ok-numbered in
+    let n = c.in_ok-numbered.numbered in
     let k = c.from_residual-in_err-labels in
     let p = err_from_is_err_and k.result k.ensures.1 in
-    rw (p.1, p.2) (right_stop c.args.triples.items c.args.keys.now n.numbered.graph n.numbered.names n.numbered.patterns.items n.ensures.names n.ensures.graph
-    n.ensures.patterns c.args.limit c.in_err-labels.field-0.0 c.in_err-labels.ensures.stop)
+    rw (p.1, p.2) (λ triples s.
+    let is = c.in_ok-numbered.ensures.numbered triples s in
+    right_stop triples c.args.keys.now n.graph n.names n.patterns.items is.names is.graph is.patterns c.args.limit c.in_err-labels.field-0.0 c.in_err-labels.ensures.stop)
+
+pub returns-in_err-report-clause-stop : goal.returns-in_err-report-clause-stop
+returns-in_err-report-clause-stop c =
+    let k = c.from_residual-in_err-report in
+    let p = err_from_is_err_and k.result k.ensures.1 in
+    rw (p.1, p.2) (λ triples s. tt)
 
 pub returns-clause-report : goal.returns-clause-report
 returns-clause-report c =
-    let n = c.in_ok-numbered in
-    let classes = subst (AreClasses n.numbered.graph n.numbered.patterns.items) (sym c.deref.ensures.value) c.in_ok-labels.ensures.classes in
-    report_is c.args.triples.items c.args.keys.now n.numbered.graph n.numbered.names n.numbered.patterns.items n.ensures.names n.ensures.graph
-    n.ensures.patterns c.deref.result.now c.into_vec.result.items classes (c.into_vec.ensures ∙ c.in_ok-report.ensures)
+    let n = c.in_ok-numbered.numbered in
+    let classes = subst (AreClasses n.graph n.patterns.items) (sym c.deref.ensures.value) c.in_ok-labels.ensures.classes in
+    λ triples s.
+    let is = c.in_ok-numbered.ensures.numbered triples s in
+    report_is triples c.args.keys.now n.graph n.names n.patterns.items is.names is.graph is.patterns
+    c.deref.result.now c.into_vec.result.items classes (c.into_vec.ensures ∙ c.in_ok-report.ensures)
 
 pub returns-clause-no_more : goal.returns-clause-no_more
 returns-clause-no_more c =
-    let n = c.in_ok-numbered in
-    not_too_many c.args.triples.items c.args.keys.now n.numbered.graph n.numbered.names n.numbered.patterns.items n.ensures.names n.ensures.graph
-    n.ensures.patterns c.args.limit c.in_ok-labels.ensures.no_more
+    let n = c.in_ok-numbered.numbered in
+    λ triples s.
+    let is = c.in_ok-numbered.ensures.numbered triples s in
+    not_too_many triples c.args.keys.now n.graph n.names n.patterns.items is.names is.graph is.patterns c.args.limit c.in_ok-labels.ensures.no_more

@@ -1,4 +1,5 @@
-use Rattle.std.proofs.Common.{List, ℕ, ◌≡◌, ◌<◌, ◌≤◌, ◌-◌, length}
+use Rattle.std.proofs.Common.{List, [], ℕ, ◌≡◌, ◌<◌, ◌≤◌, ◌-◌, ◌^◌, length}
+use Rattle.gk_base.specs.declared.term.Triple.{Triple}
 use Rattle.gkey_cmd.proofs.FeedingLemmas.{HasFed}
 use Rattle.gkey_cmd.proofs.pieces.feed_all.Given as goal
 
@@ -11,7 +12,9 @@ invariant-pieces g l =
       count : shelf.faults l.shelf ≡ shelf.faults l.fn.shelf;
       some : 0 < length l.buf;
       few : length l.buf ≤ 65536;
-      fed : (seen : List ℕ) × HasFed shelf l.fn.shelf l.shelf l.fn.reader.limits l.reader seen;
+      none : l.triples.items ≡ [];
+      limit : l.reader.limits.triples ≤ 2 ^ 22;
+      fed : (taken : List Triple) × (seen : List ℕ) × HasFed shelf l.fn.shelf l.shelf l.fn.reader.limits l.reader l.rows taken seen;
     }
 
 abbrev pub decreases-pieces : goal.decreases-pieces

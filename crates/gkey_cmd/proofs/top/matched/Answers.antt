@@ -1,26 +1,25 @@
 -- A file is not to be had.
-use Rattle.std.proofs.Common.{[], ◌∷◌, Ok, Vec, Global, Option, IfSome, refl, subst, ◌∙◌}
+use Rattle.std.proofs.Common.{[], ◌∷◌, Ok, Option, IfSome, refl, subst, ◌∙◌, arith}
 use Rattle.std.proofs.lemmas.Result.{err_from_is_err_and}
-use Rattle.gk_base.specs.declared.term.Triple.{Triple}
 use Rattle.gk_io.specs.Files.{bytes_of}
 use Rattle.key_file.specs.KeyShape.{KeyShape}
 use Rattle.gkey_cmd.specs.Commands.{Matching}
-use Rattle.gkey_cmd.specs.Reading.{GraphSays, KeysSay, IsAccepted}
+use Rattle.gkey_cmd.specs.Reading.{KeysSay, IsAccepted}
+use Rattle.gkey_cmd.specs.declared.rows.Rows.{Rows}
 use Rattle.gkey_cmd.specs.declared.file.File.TheVariants.{Graph, Keys}
-use Rattle.gkey_cmd.proofs.Told.{told_more}
 use Rattle.gkey_cmd.proofs.Deciding.{read_none, read_next, stopped, stops_at_graph, stops_at_keys, match_ended}
 use Rattle.gkey_cmd.proofs.top.matched.Goals as goal
 
-pub returns-in_err-triples : goal.returns-in_err-triples
-returns-in_err-triples g c =
+pub returns-in_err-rows : goal.returns-in_err-rows
+returns-in_err-rows g c =
     let a = c.args in
     let k = c.from_residual in
     let p = err_from_is_err_and k.result k.ensures.1 in
     let none = read_none g.S.Shelf a.shelf.now a.limits.now in
     rw (p.1, p.2) (stopped g.S.Shelf a.shelf.now a.shelf.now c.read_graph.new.shelf a.limits.now [] Graph a.graph.now none
-    {A = Vec Triple Global} (λ files triples. GraphSays a.limits.now (bytes_of files a.graph.now) (Ok triples.items))
+    {A = Rows} (λ files rows. IsAccepted a.limits.now files Graph a.graph.now)
     (Matching a.graph.now a.keys.now) ((Keys, a.keys.now) ∷ []) refl
-    (stops_at_graph g.S.Shelf a.shelf.now c.read_graph.new.shelf a.limits.now a.graph.now a.keys.now) c.in_err-triples.field-0.0 c.in_err-triples.ensures.cases)
+    (stops_at_graph g.S.Shelf a.shelf.now c.read_graph.new.shelf a.limits.now a.graph.now a.keys.now) c.in_err-rows.field-0.0 c.in_err-rows.ensures.cases)
 
 pub returns-in_err-read : goal.returns-in_err-read
 returns-in_err-read g c =
@@ -28,19 +27,23 @@ returns-in_err-read g c =
     let k = c.from_residual-in_err-read in
     let p = err_from_is_err_and k.result k.ensures.1 in
     let none = read_none g.S.Shelf a.shelf.now a.limits.now in
-    let accepted = told_more (g.S.Shelf.held a.shelf.now) (λ files. GraphSays a.limits.now (bytes_of files a.graph.now) (Ok c.in_ok-triples.triples.items))
-    (λ files. IsAccepted a.limits.now files Graph a.graph.now) (λ files e. (c.in_ok-triples.triples.items, e)) c.in_ok-triples.ensures.cases.1 in
-    let one = read_next g.S.Shelf a.shelf.now a.shelf.now c.read_graph.new.shelf a.limits.now [] Graph a.graph.now none accepted c.in_ok-triples.ensures.cases.0 c.in_ok-triples.ensures.held in
+    let r = c.in_ok-rows.ensures in
+    let one = read_next g.S.Shelf a.shelf.now a.shelf.now c.read_graph.new.shelf a.limits.now [] Graph a.graph.now none r.cases.1 r.cases.0 r.held in
     rw (p.1, p.2) (stopped g.S.Shelf a.shelf.now c.read_graph.new.shelf c.read_keys.new.shelf a.limits.now ((Graph, a.graph.now) ∷ []) Keys a.keys.now one
     (λ files read. KeysSay a.limits.now (bytes_of files a.keys.now) (Ok read))
     (Matching a.graph.now a.keys.now) [] refl
     (stops_at_keys g.S.Shelf a.shelf.now c.read_keys.new.shelf a.limits.now a.graph.now a.keys.now) c.in_err-read.field-0.0 c.in_err-read.ensures.cases)
 
+pub match_files-requires-clause-few : goal.match_files-requires-clause-few
+match_files-requires-clause-few g c =
+    let r = c.in_ok-rows.ensures.rows in (r.0, r.1.stand, omega (arith, r.1.few, c.requires.triples))
+
 pub returns : goal.returns
 returns g c =
     let a = c.args in
-    let t = c.in_ok-triples in
+    let r = c.in_ok-rows.ensures in
+    let t = r.rows in
     let k = c.in_ok-read in
-    let in_keys = subst (λ o. IfSome o (λ files. KeysSay a.limits.now (bytes_of files a.keys.now) (Ok k.read))) t.ensures.held k.ensures.cases.1 in
-    match_ended g.S.Shelf a.shelf.now c.read_keys.new.shelf a.limits.now a.graph.now a.keys.now t.triples.items k.read (k.ensures.cases.0 ∙ t.ensures.cases.0)
-    t.ensures.cases.1 in_keys c.match_files.result c.match_files.ensures
+    let in_keys = subst (λ o. IfSome o (λ files. KeysSay a.limits.now (bytes_of files a.keys.now) (Ok k.read))) r.held k.ensures.cases.1 in
+    match_ended g.S.Shelf a.shelf.now c.read_keys.new.shelf a.limits.now a.graph.now a.keys.now t.0 k.read (k.ensures.cases.0 ∙ r.cases.0)
+    t.1.says in_keys c.match_files.result (c.match_files.ensures t.0 t.1.stand)

@@ -18,10 +18,10 @@ pub returns-in-Err-clause-takes : goal.returns-in-Err-clause-takes
 returns-in-Err-clause-takes c =
     let piece = c.args.piece.now in
     let cut = c.args.limits.now.bytes - c.args.state.now.bytes in
-    λ seen s.
+    λ taken seen s.
     stopped_more c.args.limits.now _ (seen ++ piece) (drop cut piece) c.in-Err.stop
     (append_assoc seen _ (drop cut piece) ∙ ap (λ (l : List ℕ). seen ++ l) (take-append-drop cut piece))
-    (c.in-Err.ensures.takes seen s)
+    (c.in-Err.ensures.takes taken seen s)
 
 pub returns-then-piece-cut-eq10-clause-takes : goal.returns-then-piece-cut-eq10-clause-takes
 returns-then-piece-cut-eq10-clause-takes c =
@@ -31,11 +31,11 @@ returns-then-piece-cut-eq10-clause-takes c =
     let new = c.take-2.new.state in
     let inside : cut < length piece = c.if-piece-room.false in
     let full : new.bytes ≡ limits.bytes = omega (arith, c.in-Ok.ensures.bytes, length-take-le cut piece (omega arith), c.requires.room) in
-    λ seen s.
-    let stands = c.in-Ok.ensures.takes seen s in
+    λ taken seen s.
+    let stands = c.in-Ok.ensures.takes taken seen s in
     subst (IsStopped limits (seen ++ piece)) (sym c.refused.ensures)
-    (too_long limits new seen piece _ cut c.saturating_sub.result stands refl inside full
-    (c.saturating_sub.ensures ∙ line_at_feed limits new _ (get_or piece cut 0) stands c.if-state.true c.if-piece-cut-eq10.true))
+    (too_long limits new taken seen piece _ cut c.saturating_sub.result stands refl inside full
+    (c.saturating_sub.ensures ∙ line_at_feed limits new taken _ (get_or piece cut 0) stands c.if-state.true c.if-piece-cut-eq10.true))
 
 pub returns-clause-takes : goal.returns-clause-takes
 returns-clause-takes c =
@@ -49,7 +49,7 @@ returns-clause-takes c =
       | else-state-via-then-state+else-piece-cut-eq10 w ↦ and_right _ _ (ne_eqb _ _ w.if-piece-cut-eq10.false)
       | else-state-via-else-state w ↦ and_left _ _ w.if-state.false
     ] in
-    λ seen s.
-    let stands = c.in-Ok.ensures.takes seen s in
+    λ taken seen s.
+    let stands = c.in-Ok.ensures.takes taken seen s in
     subst (IsStopped limits (seen ++ piece)) (sym c.refused-2.ensures)
-    (too_long limits new seen piece _ cut new.line stands refl inside full (line_elsewhere limits new _ (get_or piece cut 0) stands other))
+    (too_long limits new taken seen piece _ cut new.line stands refl inside full (line_elsewhere limits new taken _ (get_or piece cut 0) stands other))

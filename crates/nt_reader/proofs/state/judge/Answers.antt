@@ -40,7 +40,7 @@ returns-in-Ok-Some c =
 
 pub returns-in-Err-Fault : goal.returns-in-Err-Fault
 returns-in-Err-Fault c =
-    let most = c.args.limits.now.triples in
+    let most = c.args.room in
     let old = c.args.triples.now.items in
     subst (λ stop. Judges {A = Unit {0}} most old old c.args.content.now c.args.number (Err stop)) (sym c.refused.ensures)
     (record { number_is = refl; refused = record { why = inl (c.in-Err-Fault.fault, said (LineSays c.args.content.now) c.in-Err-Fault.field-0-is c.in-Err-Fault.ensures.so, refl) } })

@@ -26,11 +26,11 @@ lines-preserved-then-piece-from-eq10 c =
       inside = omega arith;
       bytes = omega (arith, c.lines.invariant.bytes);
       line = omega (arith, c.lines.invariant.line);
-      stands = λ seen s.
-          let step = stands_swallow c.args.limits.now old (seen ++ take from piece) (c.lines.invariant.stands seen s)
-          (record { triples = old.triples; kept = old.kept; bytes = old.bytes + 1; line = old.line; after_return = false })
-          c.if-state.true room refl refl refl refl refl in
-          moved c.args.limits.now _ _ _
+      stands = λ taken seen s.
+          let step = stands_swallow c.args.limits.now old taken (seen ++ take from piece) (c.lines.invariant.stands taken seen s)
+          (record { triples = old.triples; room = old.room; kept = old.kept; bytes = old.bytes + 1; line = old.line; after_return = false })
+          c.if-state.true room refl refl refl refl refl refl in
+          moved c.args.limits.now _ taken _ _
           (append_assoc seen (take from piece) (0x0A ∷ []) ∙ ap (λ (l : List ℕ). seen ++ l)
           (ap (λ b. take from piece ++ b ∷ []) (sym c.if-piece-from-eq10.true) ∙ sym (take_more piece from 0 inside))) step;
     }
@@ -44,21 +44,21 @@ returns-then-end-piece-clause-takes c =
     let seg = slice_range piece from end in
     let run = c.line_run-end.ensures in
     let long = length-range piece from end run.in_range in
-    λ seen s.
-    let step = stands_part c.args.limits.now old (seen ++ take from piece) (c.lines.invariant.stands seen s)
-    (record { triples = old.triples; kept = c.extend_from_slice.new.self; bytes = old.bytes + (end - from); line = old.line; after_return = false })
+    λ taken seen s.
+    let step = stands_part c.args.limits.now old taken (seen ++ take from piece) (c.lines.invariant.stands taken seen s)
+    (record { triples = old.triples; room = old.room; kept = c.extend_from_slice.new.self; bytes = old.bytes + (end - from); line = old.line; after_return = false })
     seg (range_passes is_line_byte piece from end run.in_range run.pass)
     (omega (arith, long, c.lines-test.true, c.if-end-piece.true))
     (omega (arith, long, c.requires.room, c.lines.invariant.bytes, run.ordered, run.in_range))
-    (ap (λ n. old.bytes + n) (sym long)) c.in-Ok.ensures.items refl refl refl in
-    moved c.args.limits.now _ _ _
+    (ap (λ n. old.bytes + n) (sym long)) c.in-Ok.ensures.items refl refl refl refl in
+    moved c.args.limits.now _ taken _ _
     (append_assoc seen (take from piece) seg ∙ ap (λ (l : List ℕ). seen ++ l) (sym (take_part piece from end run.ordered) ∙ take_all end piece (omega (arith, c.if-end-piece.true)))) step
 
-stopped : (limits : Limits) (old : State) (seen : List ℕ) (s : Stands limits old seen) (seg : List ℕ) (b : ℕ) (p : AllPass is_line_byte seg) (e : is_line_byte b ≡ false)
+stopped : (limits : Limits) (old : State) (taken : List Triple) (seen : List ℕ) (s : Stands limits old taken seen) (seg : List ℕ) (b : ℕ) (p : AllPass is_line_byte seg) (e : is_line_byte b ≡ false)
     (own : length seg ≡ 0 → (eqb b 0x0A && old.after_return) ≡ false) (room : old.bytes + length seg + 1 ≤ limits.bytes) (new : List Triple) (stop : ReadStop)
-    → Judges {A = Unit {0}} limits.triples old.triples.items new (old.kept.items ++ seg) old.line (Err stop) → IsStopped limits (seen ++ (seg ++ b ∷ [])) stop
-stopped limits old seen s seg b p e own room new NoMemory j = tt
-stopped limits old seen s seg b p e own room new (Refused r) j = stops_line limits old seen s seg b p e own room r j
+    → Judges {A = Unit {0}} old.room old.triples.items new (old.kept.items ++ seg) old.line (Err stop) → IsStopped limits (seen ++ (seg ++ b ∷ [])) stop
+stopped limits old taken seen s seg b p e own room new NoMemory j = tt
+stopped limits old taken seen s seg b p e own room new (Refused r) j = stops_line limits old taken seen s seg b p e own room r j
 
 and_false : (x : Bool) → (x && false) ≡ false
 and_false true = refl
@@ -87,8 +87,8 @@ returns-in-Err-clause-takes c =
       | else-state-via-else-state w ↦ ap (λ r. eqb (get_or piece end 0) 0x0A && r) w.if-state.false ∙ and_false _
     ]
     in
-    λ seen s.
-    let one = stopped limits old (seen ++ take from piece) (c.lines.invariant.stands seen s) seg (get_or piece end 0)
+    λ taken seen s.
+    let one = stopped limits old taken (seen ++ take from piece) (c.lines.invariant.stands taken seen s) seg (get_or piece end 0)
     (range_passes is_line_byte piece from end run.in_range run.pass) (run.stops inside) own
     (omega (arith, long, inside, c.requires.room, c.lines.invariant.bytes, run.ordered)) c.end_line.new.state.triples.items c.in-Err.stop c.in-Err.ensures.judged in
     stopped_more limits _ (seen ++ piece) (drop (end + 1) piece) c.in-Err.stop
@@ -119,11 +119,19 @@ lines-preserved c =
       inside = omega arith;
       bytes = omega (arith, e.bytes, c.lines.invariant.bytes, run.ordered);
       line = omega (arith, e.line, e.bytes, c.lines.invariant.line);
-      stands = λ seen s.
-          let one = stands_line limits old (seen ++ take from piece) (c.lines.invariant.stands seen s) seg (get_or piece end 0)
+      stands = λ taken seen s.
+          let one = stands_line limits old taken (seen ++ take from piece) (c.lines.invariant.stands taken seen s) seg (get_or piece end 0)
           (range_passes is_line_byte piece from end run.in_range run.pass) (run.stops inside) own
           (omega (arith, long, inside, c.requires.room, c.lines.invariant.bytes, run.ordered))
-          (record { triples = c.end_line.new.state.triples; kept = c.end_line.new.state.kept; bytes = c.end_line.new.state.bytes + 1; line = c.end_line.new.state.line + 1; after_return = eqb (get_or piece end 0) 13 })
-          e.judged (omega (arith, e.bytes, long)) e.kept (omega (arith, e.line)) refl in
-          moved limits _ _ _ (append_assoc seen (take from piece) (seg ++ get_or piece end 0 ∷ []) ∙ ap (λ (l : List ℕ). seen ++ l) (sym (take_line piece from end run.ordered inside))) one;
+          (record { triples = c.end_line.new.state.triples; room = c.end_line.new.state.room; kept = c.end_line.new.state.kept; bytes = c.end_line.new.state.bytes + 1; line = c.end_line.new.state.line + 1; after_return = eqb (get_or piece end 0) 13 })
+          e.judged (omega (arith, e.bytes, long)) e.kept (omega (arith, e.line)) refl e.room in
+          moved limits _ taken _ _ (append_assoc seen (take from piece) (seg ++ get_or piece end 0 ∷ []) ∙ ap (λ (l : List ℕ). seen ++ l) (sym (take_line piece from end run.ordered inside))) one;
     }
+
+pub returns-clause-takes : goal.returns-clause-takes
+returns-clause-takes c =
+    let piece = c.args.piece.now in
+    let from = c.lines.from in
+    let over : length piece ≤ from = omega (arith, c.lines-test.false) in
+    λ taken seen s.
+    moved c.args.limits.now _ taken _ _ (ap (λ (l : List ℕ). seen ++ l) (take_all from piece over)) (c.lines.invariant.stands taken seen s)

@@ -1,5 +1,5 @@
 -- Triples in numbers.
-use Rattle.std.proofs.Common.{inl, inr, List, [], ◌∷◌, ◌++◌, ℕ, Bool, true, Option, Some, None, All, Contains, IsSome, if◌then◌else◌, map, length, slice_get, slice_index, ◌↔◌, get_or, take, reverse, ◌≡◌, ◌<◌, ◌≤◌, ◌+◌, ◌*◌, IfSome, ◌^◌, refl, sym, ◌∙◌, ap, subst, arith, length-append, append_assoc, append-nil}
+use Rattle.std.proofs.Common.{inl, inr, List, [], ◌∷◌, ◌++◌, ℕ, Bool, true, Option, Some, None, All, Contains, IsSome, if◌then◌else◌, map, length, slice_get, slice_index, ◌↔◌, get_or, take, reverse, ◌≡◌, ◌⊎◌, ◌<◌, ◌≤◌, ◌+◌, ◌*◌, IfSome, ◌^◌, refl, sym, ◌∙◌, ap, subst, arith, length-append, append_assoc, append-nil}
 use Rattle.std.proofs.lemmas.List.{map-append, length-map, reverse-append, take_more}
 use Rattle.std.proofs.lemmas.List.Elements.{All-nil, All-cons}
 use Rattle.std.proofs.lemmas.Bool.{cases_Bool}
@@ -9,9 +9,15 @@ use Rattle.gk_base.specs.declared.term.Term.{Term}
 use Rattle.gk_base.specs.declared.term.Triple.{Triple}
 use Rattle.term_table.specs.Numbering.{is_named, place_of, with_term, with_terms, names_of, AreDistinct}
 use Rattle.term_table.proofs.NumberingLemmas.{slice_get-place_of, is_named-at, place_of-at, place_of-within, slice_get-with_term, is_named-added, is_named-with_term, is_named-with_terms, place_of-with_terms, names_of-append, length-with_terms}
+use Rattle.chase_laws.specs.Shape.{Shape}
 use Rattle.chase_laws.specs.Graph.{NumberedGraph, IsFolding}
+use Rattle.chase_laws.specs.SameRows.{AreUnfolded}
 use Rattle.term_table.specs.Folding.{folds_of, IsLiteralAt}
-use Rattle.gkey_cmd.specs.Numbered.{triple_terms, terms_of, row_of, rdf_type, type_number, graph_of, AreSameGraph}
+use Rattle.key_file.specs.KeyShape.{KeyShape}
+use Rattle.key_file.specs.Compile.{key_terms}
+use Rattle.gkey_cmd.specs.Numbered.{triple_terms, terms_of, row_of, names_for, rdf_type, type_number, graph_of, AreAlikeFor, AreSameGraph}
+use Rattle.gkey_cmd.specs.Rows.{StandFor}
+use Rattle.gkey_cmd.specs.declared.rows.Rows.{Rows}
 
 -- each term of a triple is a name
 pub record IsNamed (names : List Term) (t : Triple) : Type 0 where
@@ -65,29 +71,6 @@ terms_of-push : (done : List Triple) (t : Triple) → terms_of (done ++ t ∷ []
 terms_of-push [] t = refl
 terms_of-push (u ∷ us) t = ap (λ ts. u.subject ∷ u.predicate ∷ u.object ∷ ts) (terms_of-push us t)
 
--- some triples are numbered, and the others are left, the first of them last
-pub record HasNumbered (all left : List Triple) (names : List Term) (rows : List (List ℕ)) (done : List Triple) : Type 0 where
-  pub whole : all ≡ done ++ reverse left
-  pub names_are : names ≡ names_of (terms_of done)
-  pub rows_are : rows ≡ map (row_of names) done
-  pub named : AreNamed names done
-
-pub none_numbered : (all left : List Triple) → all ≡ reverse left → HasNumbered all left [] [] []
-none_numbered all left e = record { whole = e; names_are = refl; rows_are = refl; named = tt }
-
--- one more
-pub one_numbered : (all left rest : List Triple) (names more : List Term) (rows : List (List ℕ)) (done : List Triple) (t : Triple) →
-    HasNumbered all left names rows done → reverse left ≡ t ∷ reverse rest → more ≡ with_terms names (triple_terms t) →
-    HasNumbered all rest more (rows ++ row_of more t ∷ []) (done ++ t ∷ [])
-one_numbered all left rest names more rows done t h e m = record {
-  whole = h.whole ∙ ap (λ ts. done ++ ts) e ∙ sym (append_assoc done (t ∷ []) (reverse rest));
-  names_are = m ∙ ap (λ ns. with_terms ns (triple_terms t)) h.names_are ∙ sym (names_of-append (terms_of done) (triple_terms t)) ∙ ap names_of (sym (terms_of-push done t));
-  rows_are =
-      let same : map (row_of more) done ≡ rows = subst (λ ns. map (row_of ns) done ≡ map (row_of names) done) (sym m) (rows_stay names (triple_terms t) done h.named) ∙ sym h.rows_are in
-      ap (λ rs. rs ++ row_of more t ∷ []) (sym same) ∙ sym (map-append (row_of more) done (t ∷ []));
-  named = AreNamed-push more done t (subst (λ ns. AreNamed ns done) (sym m) (AreNamed-more names (triple_terms t) done h.named)) (subst (λ ns. IsNamed ns t) (sym m) (IsNamed-added names t));
-}
-
 length-terms_of : (ts : List Triple) → length (terms_of ts) ≡ 3 * length ts
 length-terms_of [] = refl
 length-terms_of (t ∷ ts) = let e = length-terms_of ts in omega arith
@@ -96,19 +79,10 @@ length-terms_of (t ∷ ts) = let e = length-terms_of ts in omega arith
 pub few_names : (ts : List Triple) → length (names_of (terms_of ts)) ≤ 3 * length ts
 few_names ts = let a = (length-with_terms [] (terms_of ts)).1 in let b = length-terms_of ts in omega arith
 
--- while some are left the names are few
-pub still_few : (all left : List Triple) (names : List Term) (rows : List (List ℕ)) (done : List Triple) → HasNumbered all left names rows done → length all ≤ 2 ^ 22 → length names + 3 < 2 ^ 32
-still_few all left names rows done h few =
-    let a : length all ≡ length done + length (reverse left) = ap length h.whole ∙ length-append done (reverse left) in
-    let b : length names ≤ 3 * length done = subst (λ ns. length ns ≤ 3 * length done) (sym h.names_are) (few_names done) in
-    omega arith
-
--- none are left
-pub all_numbered : (all left : List Triple) (names : List Term) (rows : List (List ℕ)) (done : List Triple) → HasNumbered all left names rows done → left ≡ [] →
-    (names ≡ names_of (terms_of all)) × (rows ≡ map (row_of names) all) × AreNamed names all
-all_numbered all left names rows done h e =
-    let same : all ≡ done = h.whole ∙ ap (λ ts. done ++ reverse ts) e ∙ append-nil done in
-    (h.names_are ∙ ap (λ ts. names_of (terms_of ts)) (sym same), h.rows_are ∙ ap (map (row_of names)) (sym same), subst (AreNamed names) (sym same) h.named)
+-- names that stay in their places, with the terms of one triple more
+terms_more : (names more : List Term) (done : List Triple) (t : Triple) → names ≡ names_of (terms_of done) → more ≡ with_terms names (triple_terms t) → more ≡ names_of (terms_of (done ++ t ∷ []))
+terms_more names more done t e m =
+    m ∙ ap (λ ns. with_terms ns (triple_terms t)) e ∙ sym (names_of-append (terms_of done) (triple_terms t)) ∙ ap names_of (sym (terms_of-push done t))
 
 -- numbers of names are below their count
 below : (names : List Term) (u : Term) (count : ℕ) → is_named names u ≡ true → length names ≤ count → place_of names u < count
@@ -194,12 +168,64 @@ folding_of names rows flags o alike e count above again literals others =
       others = λ n h k. others n (omega arith) k;
     })
 
--- the graph in numbers
-pub numbered : (ts : List Triple) (names more : List Term) (rows : List (List ℕ)) (G : NumberedGraph) (key : List Term) → AreNamed names ts → more ≡ with_terms names key →
-    rows ≡ map (row_of names) ts → ((row : List ℕ) → Contains G.rows row ↔ Contains rows row) → G.literal ≡ map is_literal more → G.rdf_type ≡ type_number more → G.alike ≡ folds_of more → AreSameGraph G (graph_of more ts)
-numbered ts names more rows G key named e same built literal type folds =
-    let stay : rows ≡ map (row_of more) ts = same ∙ sym (subst (λ ns. map (row_of ns) ts ≡ map (row_of names) ts) (sym e) (rows_stay names key ts named)) in
+-- ---- rows that stand for triples
+
+-- rows of no triples
+pub stand_none : (r : Rows) → r.names ≡ [] → r.rows.items ≡ [] → StandFor r []
+stand_none r e f = record { names = e; rows = f }
+
+-- the terms of the triples are names
+pub named_of : (r : Rows) (ts : List Triple) → StandFor r ts → AreNamed r.names ts
+named_of r ts s = subst (λ ns. AreNamed ns ts) (sym s.names) (all_named [] ts)
+
+-- one triple more
+pub stand_more : (old new : Rows) (done : List Triple) (t : Triple) → StandFor old done → new.names ≡ with_terms old.names (triple_terms t) →
+    new.rows.items ≡ old.rows.items ++ row_of new.names t ∷ [] → StandFor new (done ++ t ∷ [])
+stand_more old new done t s m e = record {
+  names = terms_more old.names new.names done t s.names m;
+  rows =
+      let same : map (row_of new.names) done ≡ old.rows.items =
+      subst (λ ns. map (row_of ns) done ≡ map (row_of old.names) done) (sym m) (rows_stay old.names (triple_terms t) done (named_of old done s)) ∙ sym s.rows in
+      e ∙ ap (λ rs. rs ++ row_of new.names t ∷ []) (sym same) ∙ sym (map-append (row_of new.names) done (t ∷ []));
+}
+
+-- at most three names a triple
+pub names_few : (r : Rows) (ts : List Triple) → StandFor r ts → length r.names ≤ 3 * length ts
+names_few r ts s = subst (λ ns. length ns ≤ 3 * length ts) (sym s.names) (few_names ts)
+
+-- some triples are numbered, and the others are left, the first of them last: one more is numbered
+pub add_one : (all left rest done : List Triple) (t : Triple) → all ≡ done ++ reverse left → left ≡ rest ++ t ∷ [] →
+    all ≡ (done ++ t ∷ []) ++ reverse rest
+add_one all left rest done t e f =
+    e ∙ ap (λ ts. done ++ reverse ts) f ∙ ap (λ ts. done ++ ts) (reverse-append rest (t ∷ [])) ∙ sym (append_assoc done (t ∷ []) (reverse rest))
+
+-- three names at most come with a triple
+pub names_more : (old new : List Term) (t : Triple) → new ≡ with_terms old (triple_terms t) → length new ≤ length old + 3
+names_more old new t e = let a = (length-with_terms old (triple_terms t)).1 in let b = ap length e in omega arith
+
+-- ---- the graph in numbers
+
+-- what names are alike to, in one graph and in the other
+alike_there : (names : List Term) (K : List Shape) (own folds : List ℕ) → AreAlikeFor names K own → folds ≡ folds_of names → (own ≡ folds) ⊎ AreUnfolded K
+alike_there names K own folds (inl e) f = inl (e ∙ sym f)
+alike_there names K own folds (inr h) f = inr h
+
+alike_back : (names : List Term) (K : List Shape) (own folds : List ℕ) → AreAlikeFor names K own → folds ≡ folds_of names → (folds ≡ own) ⊎ AreUnfolded K
+alike_back names K own folds (inl e) f = inl (f ∙ sym e)
+alike_back names K own folds (inr h) f = inr h
+
+-- the names of the triples and then of the keys
+pub names_numbered : (r : Rows) (ts : List Triple) (more : List Term) (keys : List KeyShape) → StandFor r ts → more ≡ with_terms r.names (key_terms keys) → more ≡ names_for ts keys
+names_numbered r ts more keys s e = e ∙ ap (λ ns. with_terms ns (key_terms keys)) s.names ∙ sym (names_of-append (terms_of ts) (key_terms keys))
+
+pub numbered : (r : Rows) (ts : List Triple) (more : List Term) (K : List Shape) (own : List ℕ) (G : NumberedGraph) (key : List Term) → StandFor r ts → more ≡ with_terms r.names key →
+    ((row : List ℕ) → Contains G.rows row ↔ Contains r.rows.items row) → G.literal ≡ map is_literal more → G.rdf_type ≡ type_number more → G.alike ≡ own → AreAlikeFor more K own →
+    AreSameGraph K G (graph_of more ts)
+numbered r ts more K own G key s e built literal type alike folds =
+    let named = named_of r ts s in
+    let stay : r.rows.items ≡ map (row_of more) ts = s.rows ∙ sym (subst (λ ns. map (row_of ns) ts ≡ map (row_of r.names) ts) (sym e) (rows_stay r.names key ts named)) in
+    let here : AreAlikeFor more K G.alike = subst (AreAlikeFor more K) (sym alike) folds in
     record {
-      there = record { rows = λ row h. subst (λ rs. Contains rs row) stay ((built row).0 h); literal = literal; rdf_type = type; alike = folds };
-      back = record { rows = λ row h. (built row).1 (subst (λ rs. Contains rs row) (sym stay) h); literal = sym literal; rdf_type = sym type; alike = sym folds };
+      there = record { rows = λ row h. subst (λ rs. Contains rs row) stay ((built row).0 h); literal = literal; rdf_type = type; alike = alike_there more K G.alike (folds_of more) here refl };
+      back = record { rows = λ row h. (built row).1 (subst (λ rs. Contains rs row) (sym stay) h); literal = sym literal; rdf_type = sym type; alike = alike_back more K G.alike (folds_of more) here refl };
     }

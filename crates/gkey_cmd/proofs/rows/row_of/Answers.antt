@@ -1,6 +1,6 @@
 -- What interning gives is the row.
-use Rattle.gkey_cmd.proofs.Rows.{interned_row}
-use Rattle.gkey_cmd.proofs.numbering.row_of.Goals as goal
+use Rattle.gkey_cmd.proofs.NumberedRows.{interned_row}
+use Rattle.gkey_cmd.proofs.rows.row_of.Goals as goal
 
 pub returns-clause-row : goal.returns-clause-row
 returns-clause-row c =
