@@ -3,8 +3,8 @@
 
 Usage: bench/reading_and_numbering.py [MILLIONS ..]   (1 2 4, if none are given)
 
-It needs Debian's packages serdi and raptor2-utils. Each tool runs three times and the best run counts. `serdi` and
-`rapper` only parse; `gkey` also numbers every term and builds the graph's indexes.
+It needs Debian's packages serdi and raptor2-utils. The tools run in turn, five times each, and the best run of each
+counts. `serdi` and `rapper` only parse; `gkey` also numbers every term and builds the graph's indexes.
 """
 
 import pathlib
@@ -12,7 +12,7 @@ import sys
 import tempfile
 
 import graphs
-from timing import PROGRAM, best_of_three, built
+from timing import PROGRAM, best_in_turn, built
 
 COLUMNS = "{:>10} {:>8} {:>10} {:>10} {:>12} {:>10} {:>10}"
 
@@ -36,8 +36,8 @@ def main():
             with graph.open("w", encoding="utf-8") as out:
                 graphs.mixed(out, triples)
             megabytes = graph.stat().st_size / 1e6
-            for tool, command in tools(str(graph), str(keys)):
-                run = best_of_three(command)
+            names, commands = zip(*tools(str(graph), str(keys)))
+            for tool, run in zip(names, best_in_turn(commands)):
                 print(COLUMNS.format(triples, f"{megabytes:.0f}", tool, f"{run.seconds:.2f}",
                                      f"{triples / run.seconds:.0f}", f"{megabytes / run.seconds:.0f}", f"{run.megabytes:.0f}"),
                       flush=True)

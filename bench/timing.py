@@ -33,3 +33,9 @@ def timed(command):
 
 def best_of_three(command):
     return min(timed(command) for _ in range(3))
+
+
+def best_in_turn(commands, rounds=5):
+    """The best run of each command. They run in turn, so that a slow minute of the machine falls on all of them."""
+    runs = [[timed(command) for command in commands] for _ in range(rounds)]
+    return [min(of_one) for of_one in zip(*runs)]

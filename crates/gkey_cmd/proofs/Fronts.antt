@@ -1,15 +1,14 @@
 -- What is judged of the first bytes of a key file, up to one more than the limit, is true of the file.
-use Rattle.std.proofs.Common.{List, ℕ, Bool, true, false, Option, Some, None, IfSome, Result, Ok, Err, if◌then◌else◌, ◌≡◌, ◌+◌, ◌<◌, ◌≤◌, sym, ◌∙◌, ap, ap₂, subst, take, length, slice_index, arith, inl, inr}
+use Rattle.std.proofs.Common.{List, ℕ, Option, Some, None, IfSome, Result, Ok, Err, if◌then◌else◌, ◌≡◌, ◌+◌, ◌<◌, sym, ◌∙◌, ap, ap₂, subst, take, length, slice_index, arith, inl, inr}
 use Rattle.std.proofs.lemmas.List.{take-take, take_all, length-take-le, get_or-take}
 use Rattle.std.proofs.lemmas.Bool.{cases_lt, lt-ltb, lt-leb}
-use Rattle.std.specs.Prelude.{nat_lt, nat_le}
 use Rattle.gk_io.specs.Files.{bytes_of}
 use Rattle.nt_reader.specs.Lines.{cut_of, lines}
 use Rattle.nt_reader.specs.File.{judged, line_of_next}
 use Rattle.key_file.specs.KeyShape.{KeyShape}
 use Rattle.key_lang.specs.declared.fault.KeyFault.TheVariants.{FileTooLong}
 use Rattle.key_lang.specs.declared.fault.KeyRefusal.{KeyRefusal}
-use Rattle.key_lang.specs.Answers.{Is, Then, stops, goes_on}
+use Rattle.key_lang.specs.Answers.{stops, goes_on}
 use Rattle.key_lang.specs.OpenKey.{KeyState}
 use Rattle.key_lang.specs.KeyText.{LinesSay, KeysSay, start, ended, after_lines}
 

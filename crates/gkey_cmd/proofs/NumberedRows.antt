@@ -1,5 +1,5 @@
 -- Triples in numbers.
-use Rattle.std.proofs.Common.{inl, inr, List, [], ◌∷◌, ◌++◌, ℕ, Bool, true, Option, Some, None, All, Contains, IsSome, if◌then◌else◌, map, length, slice_get, slice_index, ◌↔◌, get_or, take, reverse, ◌≡◌, ◌⊎◌, ◌<◌, ◌≤◌, ◌+◌, ◌*◌, IfSome, ◌^◌, refl, sym, ◌∙◌, ap, subst, arith, length-append, append_assoc, append-nil}
+use Rattle.std.proofs.Common.{inl, inr, List, [], ◌∷◌, ◌++◌, ℕ, Bool, true, Option, Some, None, All, Contains, IsSome, if◌then◌else◌, map, length, slice_get, slice_index, ◌↔◌, get_or, take, reverse, ◌≡◌, ◌⊎◌, ◌<◌, ◌≤◌, ◌+◌, ◌*◌, IfSome, refl, sym, ◌∙◌, ap, subst, arith, append_assoc}
 use Rattle.std.proofs.lemmas.List.{map-append, length-map, reverse-append, take_more}
 use Rattle.std.proofs.lemmas.List.Elements.{All-nil, All-cons}
 use Rattle.std.proofs.lemmas.Bool.{cases_Bool}
@@ -169,10 +169,6 @@ folding_of names rows flags o alike e count above again literals others =
     })
 
 -- ---- rows that stand for triples
-
--- rows of no triples
-pub stand_none : (r : Rows) → r.names ≡ [] → r.rows.items ≡ [] → StandFor r []
-stand_none r e f = record { names = e; rows = f }
 
 -- the terms of the triples are names
 pub named_of : (r : Rows) (ts : List Triple) → StandFor r ts → AreNamed r.names ts

@@ -1,5 +1,5 @@
 -- The report of the graph that was built is that of the triples.
-use Rattle.std.proofs.Common.{List, ℕ, Bool, Option, IsTrue, ◌↔◌, ◌^◌, None, Some, length, slice_index, ◌==◌, ◌≡◌, ◌∙◌, ◌<◌, ◌≤◌, sym, ap, subst, arith, eqb-true, eq-eqb}
+use Rattle.std.proofs.Common.{List, ℕ, Bool, IsTrue, ◌↔◌, ◌^◌, length, slice_index, ◌==◌, ◌≡◌, ◌∙◌, ◌<◌, ◌≤◌, sym, ap, subst, arith, eqb-true, eq-eqb}
 use Rattle.std.proofs.lemmas.List.{length-map}
 use Rattle.std.proofs.lemmas.List.Elements.{All-weaker}
 use Rattle.gk_base.specs.Term.{is_literal}

@@ -1,5 +1,5 @@
 -- What the files of a run say, and which of them is refused.
-use Rattle.std.specs.Prelude.{List, [], ◌∷◌, ℕ, ◌≡◌, ◌⊎◌, ◌++◌, Option, Result, Ok, Err, codes}
+use Rattle.std.specs.Prelude.{List, [], ◌∷◌, ℕ, ◌⊎◌, ◌++◌, Result, Ok, Err, codes}
 use Rattle.std.specs.Fmt.{decimal}
 use Rattle.gk_base.specs.Faults.{read_text}
 use Rattle.gk_base.specs.declared.limits.Limits.{Limits}

@@ -8,8 +8,8 @@ use gk_base::{NoMemory, Text};
 use gk_io::{Failed, Shelf};
 use std::alloc::{AllocError, Global};
 
-/// The most bytes that are read at once.
-const PIECE: usize = 65_536;
+/// The most bytes that are read at once: few enough that what is made of them stays in the processor's nearest cache.
+const PIECE: usize = 8_192;
 
 /// Why a file's bytes are not to be had.
 #[derive(Clone, Copy)]

@@ -1,8 +1,7 @@
 -- A file is not to be had.
-use Rattle.std.proofs.Common.{[], ◌∷◌, Ok, Option, IfSome, refl, subst, ◌∙◌, arith}
+use Rattle.std.proofs.Common.{[], ◌∷◌, Ok, IfSome, refl, subst, ◌∙◌, arith}
 use Rattle.std.proofs.lemmas.Result.{err_from_is_err_and}
 use Rattle.gk_io.specs.Files.{bytes_of}
-use Rattle.key_file.specs.KeyShape.{KeyShape}
 use Rattle.gkey_cmd.specs.Commands.{Matching}
 use Rattle.gkey_cmd.specs.Reading.{KeysSay, IsAccepted}
 use Rattle.gkey_cmd.specs.declared.rows.Rows.{Rows}
