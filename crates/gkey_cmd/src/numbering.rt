@@ -1,6 +1,6 @@
 //! A graph and its keys in numbers.
 
-ghost use Rattle.std.specs.Prelude.{◌≡◌, ◌≢◌, ◌<◌, ◌≤◌, ◌+◌, ◌-◌, ◌^◌, ℕ, List, map, length, slice_get, slice_index, Some, false, IfOk};
+ghost use Rattle.std.specs.Prelude.{◌≡◌, ◌≢◌, ◌<◌, ◌≤◌, ◌+◌, ◌-◌, ◌^◌, ℕ, List, map, length, slice_get, slice_index, Some, false, IsTrue, IfOk};
 ghost use Rattle.gk_base.specs.Term.{is_literal};
 ghost use Rattle.gk_base.specs.declared.term.Triple.{Triple as AnyTriple};
 ghost use Rattle.chase_laws.specs.SameRows.{IsUnfolded, AreUnfolded};
@@ -49,7 +49,8 @@ fn type_number(alloc: Global, names: &Names) -> Result<Option<u32>, NoMemory>
 
 /// Whether some slot is a folded value variable.
 fn has_folded(slots: &[Slot]) -> bool
-    ensures { result ≡ false → (s : ℕ) → slice_get slots.now s ≢ Some Folded }
+    ensures some { IsTrue result → (s : ℕ) × (slice_get slots.now s ≡ Some Folded) }
+    ensures none { result ≡ false → (s : ℕ) → slice_get slots.now s ≢ Some Folded }
 {
     for slot in slots {
         if let Slot::Folded = slot {
@@ -61,7 +62,8 @@ fn has_folded(slots: &[Slot]) -> bool
 
 /// Whether some key has a folded value variable.
 fn have_folded(patterns: &[Pattern]) -> bool
-    ensures { result ≡ false → AreUnfolded patterns.now }
+    ensures some { IsTrue result → ¬ (AreUnfolded patterns.now) }
+    ensures none { result ≡ false → AreUnfolded patterns.now }
 {
     for pattern in patterns {
         if has_folded(&pattern.slots) {
