@@ -3,11 +3,18 @@
 //! table, and terms by number in an array. `alike` tells which literals are the same but for the case of their letters.
 //!
 //! - `names`: the table of the names
+//! - `index`, `slot`: from a term's hash to its place
+//! - `hashing`: the hashes of terms
+//! - `ahead`: look-ups of many terms that go step by step together
 //! - `folding`: which literals are the same but for case
 #![tactic(auto)]
 
+mod ahead;
 mod folding;
+mod hashing;
+mod index;
 mod names;
+mod slot;
 
 pub use names::Names;
 

@@ -1,12 +1,15 @@
 //! The table of the names.
 
-ghost use Rattle.std.specs.Prelude.{◌≡◌, ℕ, ◌-◌, ◌^◌, ◌<◌, ◌≤◌, ◌↔◌, [], length, slice_get, slice_index, Some, IsSome, IsNone, IfSome, IfOk, OnOk, OnErr, Contains};
+ghost use Rattle.std.specs.Prelude.{◌≡◌, ℕ, ◌+◌, ◌-◌, ◌^◌, ◌<◌, ◌≤◌, ◌↔◌, [], length, map, slice_get, slice_index, Some, IsSome, IsNone, IfSome, IfOk, OnOk, OnErr, Contains};
 ghost use Rattle.term_table.specs.Folding.{FoldsOf, folds_of, IsLiteralAt};
-ghost use Rattle.term_table.specs.Numbering.{with_term, place_of, AreDistinct};
+ghost use Rattle.term_table.specs.Index.{hash_of};
+ghost use Rattle.term_table.specs.Numbering.{with_term, with_terms, place_of, AreDistinct};
 
+use crate::ahead::likely_places;
 use crate::folding::folds;
+use crate::hashing::{hash_of, hashes_of};
+use crate::index::Index;
 use gk_base::{NoMemory, Term};
-use indexmap::IndexSet;
 use std::alloc::Global;
 use std::marker::Model;
 
@@ -14,18 +17,20 @@ use std::marker::Model;
 /// order in which the terms came, and never changes. Contracts see the list of the terms.
 #[derive(Drop)]
 pub struct Names {
-    terms: IndexSet<Term>,
+    terms: Vec<Term>,
+    index: Index,
 }
 
 impl Model for Names {
-    ghost use Rattle.std.specs.Prelude.{List, length, ◌<◌, ◌^◌};
+    ghost use Rattle.std.specs.Prelude.{List};
     ghost use Rattle.gk_base.specs.declared.term.Term.{Term};
+    ghost use Rattle.term_table.specs.Index.{AreIndexed};
 
     ghost Value = { List Term };
 
-    ghost view = { λ n. n.terms.keys };
+    ghost view = { λ n. n.terms.items };
 
-    ghost invariant = { λ n. length n.terms.keys < 2 ^ 32 };
+    ghost invariant = { λ n. AreIndexed n.index n.terms.items };
 }
 
 impl Names {
@@ -34,7 +39,8 @@ impl Names {
         ensures { result ≡ [] }
     {
         Names {
-            terms: IndexSet::new(alloc),
+            terms: Vec::new(alloc),
+            index: Index::new(alloc),
         }
     }
 
@@ -57,8 +63,65 @@ impl Names {
         ensures err { OnErr result (self.new ≡ self.old) }
         ensures distinct { AreDistinct self.new }
     {
-        let (place, _) = self.terms.insert_full(term)?;
-        Ok(place as u32)
+        let hash = hash_of(&term);
+        self.intern_hashed(hash, term)
+    }
+
+    // The number of this term, whose hash is given.
+    fn intern_hashed(&mut self, hash: u32, term: Term) -> Result<u32, NoMemory>
+        requires few { length self.old < 2 ^ 32 - 1 }
+        requires hash { hash ≡ hash_of term }
+        ensures place { IfOk result (λ place. slice_get self.new place ≡ Some term) }
+        ensures ok { OnOk result (self.new ≡ with_term self.old term) }
+        ensures err { OnErr result (self.new ≡ self.old) }
+        ensures distinct { AreDistinct self.new }
+    {
+        if let Some(place) = self.index.find(&self.terms, hash, &term) {
+            return Ok(place);
+        }
+        let place = self.terms.len() as u32;
+        self.terms.reserve(1)?;
+        self.index.add(hash, place)?;
+        self.terms.push_reserved(term);
+        Ok(place)
+    }
+
+    // The number of this term, whose hash is given. It is looked for at one place first.
+    fn intern_likely(&mut self, likely: u32, hash: u32, term: Term) -> Result<u32, NoMemory>
+        requires few { length self.old < 2 ^ 32 - 1 }
+        requires hash { hash ≡ hash_of term }
+        ensures place { IfOk result (λ place. slice_get self.new place ≡ Some term) }
+        ensures ok { OnOk result (self.new ≡ with_term self.old term) }
+        ensures distinct { AreDistinct self.new }
+    {
+        if let Some(name) = self.terms.get(likely as usize) {
+            if *name == term {
+                return Ok(likely);
+            }
+        }
+        self.intern_hashed(hash, term)
+    }
+
+    /// The numbers of these terms, in their order. Those that are no names yet become names one after another, as by
+    /// `intern`. It is faster than one call for each, since the memory of many look-ups is fetched at once. After
+    /// `NoMemory` some of the terms may have become names.
+    pub fn intern_all(&mut self, mut terms: Vec<Term>) -> Result<Vec<u32>, NoMemory>
+        requires { length self.old + length terms.items < 2 ^ 32 }
+        ensures numbers { IfOk result (λ numbers. numbers.items ≡ map (place_of self.new) terms.items) }
+        ensures ok { OnOk result (self.new ≡ with_terms self.old terms.items) }
+        ensures distinct { AreDistinct self.new }
+    {
+        let alloc = *self.terms.allocator();
+        let hashes = hashes_of(alloc, &terms)?;
+        let likely = likely_places(alloc, &self.index, &self.terms, &hashes, &terms)?;
+        let mut numbers = Vec::with_capacity(alloc, terms.len())?;
+        terms.reverse();
+        while let Some(term) = terms.pop() {
+            let at = numbers.len();
+            let number = self.intern_likely(likely[at], hashes[at], term)?;
+            numbers.push(number)?;
+        }
+        Ok(numbers)
     }
 
     /// The number of this term, and `None` exactly where it is no name.
@@ -68,8 +131,7 @@ impl Names {
         ensures present { IsSome result ↔ Contains self.now term.now }
         ensures absent { IsNone result ↔ (Contains self.now term.now → ⊥) }
     {
-        let place = self.terms.get_index_of(term)?;
-        Some(place as u32)
+        self.index.find(&self.terms, hash_of(term), term)
     }
 
     /// The term with this number.
@@ -97,6 +159,6 @@ impl Names {
         ensures others { IfOk result (λ numbers. (n : ℕ) → n < length self.now →
             ¬ (IsLiteralAt self.now n) → slice_index numbers.items n ≡ n) }
     {
-        folds(*self.terms.allocator(), self.terms.as_slice())
+        folds(*self.terms.allocator(), &self.terms)
     }
 }

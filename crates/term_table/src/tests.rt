@@ -58,6 +58,55 @@ fn a_repeated_term_keeps_its_number(rt: HostRuntime) -> Result<(), Fail> {
     Ok(())
 }
 
+#[test]
+fn terms_together_get_the_numbers_that_they_get_one_by_one(rt: HostRuntime) -> Result<(), Fail> {
+    let alloc = rt.alloc();
+    let mut names = Names::new(alloc);
+    for name in [b"urn:a", b"urn:b"] {
+        assert!(rt; names.len() < 1000);
+        number_of(alloc, &mut names, Sample::Iri(name))?;
+    }
+    let mut terms = Vec::new(alloc);
+    for name in [b"urn:c", b"urn:a", b"urn:c", b"urn:d", b"urn:b"] {
+        terms.push(term_of(alloc, Sample::Iri(name))?)?;
+    }
+    assert!(rt; names.len() < 1000 && terms.len() < 1000);
+    let numbers = names.intern_all(terms)?;
+    assert!(rt; numbers.as_slice() == [2, 0, 2, 3, 1].as_slice());
+    assert!(rt; names.len() == 4);
+    Ok(())
+}
+
+/// The decimal digits of a number, as a literal.
+fn digits(alloc: Global, number: u32) -> Result<Term, NoMemory> {
+    Ok(Term::Plain(Text::from_bytes(alloc, number.to_string(alloc)?.as_bytes())?))
+}
+
+#[test]
+fn many_names_are_numbered_in_order_and_found(rt: HostRuntime) -> Result<(), Fail> {
+    let alloc = rt.alloc();
+    let mut names = Names::new(alloc);
+    for number in 0..700 {
+        assert!(rt; names.len() < 1000);
+        assert!(rt; names.intern(digits(alloc, number)?)? == number);
+    }
+    let mut terms = Vec::new(alloc);
+    for number in 0..1400 {
+        terms.push(digits(alloc, number)?)?;
+    }
+    assert!(rt; names.len() < 1000 && terms.len() < 2000);
+    let numbers = names.intern_all(terms)?;
+    assert!(rt; numbers.len() == 1400 && names.len() == 1400);
+    for (place, number) in numbers.iter().enumerate() {
+        assert!(rt; *number == place as u32);
+    }
+    for number in 0..1400 {
+        assert!(rt; names.find(&digits(alloc, number)?) == Some(number));
+    }
+    assert!(rt; names.find(&digits(alloc, 1400)?).is_none());
+    Ok(())
+}
+
 /// Each sample beside the number of the first that is alike to it.
 const ALIKE: [(Sample<'static>, u32); 17] = [
     (Sample::Iri(b"urn:a"), 0),

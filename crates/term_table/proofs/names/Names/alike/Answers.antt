@@ -3,12 +3,11 @@ use Rattle.std.proofs.lemmas.Result.{IfOk-weaker}
 use Rattle.gk_base.specs.declared.term.Term.{Term}
 use Rattle.term_table.specs.Numbering.{AreDistinct}
 use Rattle.term_table.specs.Folding.{FoldsOf, folds_of, IsLiteralAt}
-use Rattle.term_table.proofs.NumberingLemmas.{AreDistinct-from_IsDistinct}
 use Rattle.term_table.proofs.FoldingLemmas.{FoldsOf-folds_of, folds_of-not_above, folds_of-itself, folds_of-literals, folds_of-others}
 use Rattle.term_table.proofs.names.Names.alike.Goals as goal
 
 pub folds-requires-clause-distinct : goal.folds-requires-clause-distinct
-folds-requires-clause-distinct c = subst AreDistinct (sym c.as_slice.ensures.keys) (AreDistinct-from_IsDistinct c.self.inside.terms.keys c.as_slice.ensures.unique)
+folds-requires-clause-distinct c = subst AreDistinct (sym c.deref.ensures.value) c.self.invariant.distinct
 
 -- the names are all different, as contracts see them
 module _ (c : goal.After-folds) where
@@ -16,13 +15,13 @@ module _ (c : goal.After-folds) where
   names = c.args.self.now
 
   distinct : AreDistinct names
-  distinct = subst AreDistinct c.self.view_is (AreDistinct-from_IsDistinct c.self.inside.terms.keys c.as_slice.ensures.unique)
+  distinct = subst AreDistinct c.self.view_is c.self.invariant.distinct
 
   -- what holds of the list holds of what the call answers
   of_list : (P : List ℕ → Type 0) → P (folds_of names) → IfOk c.folds.result (λ numbers. P numbers.items)
   of_list P holds =
-      let is : c.as_slice.result.now ≡ names = c.as_slice.ensures.keys ∙ c.self.view_is in
-      IfOk-weaker c.folds.result (λ numbers. numbers.items ≡ folds_of c.as_slice.result.now) (λ numbers. P numbers.items)
+      let is : c.deref.result.now ≡ names = c.deref.ensures.value ∙ c.self.view_is in
+      IfOk-weaker c.folds.result (λ numbers. numbers.items ≡ folds_of c.deref.result.now) (λ numbers. P numbers.items)
       (λ numbers same. subst P (sym (same ∙ ap folds_of is)) holds) c.folds.ensures
 
 pub returns-clause-folds : goal.returns-clause-folds

@@ -1,45 +1,25 @@
-use Rattle.std.proofs.Common.{◌≡◌, true, false, List, ℕ, None, Some, slice_get, subst, sym, ap, ◌∙◌}
-use Rattle.std.specs.List.{position}
-use Rattle.gk_base.specs.declared.term.Term.{Term}
-use Rattle.gk_base.specs.contracts.term.TermPartialEq.TheImpl.{eq-value}
-use Rattle.term_table.specs.Numbering.{is_named, place_of}
-use Rattle.term_table.proofs.NumberingLemmas.{slice_get-place_of}
-use Rattle.term_table.proofs.TableLemmas.{looked_up, not_found, IsSome-named, IsNone-named, IsSome-new, IsNone-new}
+use Rattle.std.proofs.Common.{◌≡◌, ◌≢◌, ℕ, Some, IfSome, IfNone, slice_get, subst, ◌∙◌}
+use Rattle.term_table.specs.Numbering.{AreDistinct}
+use Rattle.term_table.proofs.TableLemmas.{number_found, present, absent}
 use Rattle.term_table.proofs.names.Names.find.Goals as goal
 
--- what the look-up says of the names, as contracts see them
-found : (names seen : List Term) (t : Term) (place : ℕ) → names ≡ seen → Some place ≡ position ((eq-value).it t) names → (is_named seen t ≡ true) × (place ≡ place_of seen t)
-found names seen t place is h =
-    subst (λ l. (is_named l t ≡ true) × (place ≡ place_of l t)) is (looked_up names t place (sym h))
+-- what the index says, of the names as contracts see them
+module _ (c : goal.After-find) where
+  seen : c.deref.result.now ≡ c.args.self.now
+  seen = c.deref.ensures.value ∙ c.self.view_is
 
-missing : (names seen : List Term) (t : Term) → names ≡ seen → None ≡ position ((eq-value).it t) names → is_named seen t ≡ false
-missing names seen t is h = subst (λ l. is_named l t ≡ false) is (not_found names t (sym h))
+  found : IfSome c.find.result (λ place. slice_get c.args.self.now place ≡ Some c.args.term.now)
+  found = subst (λ names. IfSome c.find.result (λ place. slice_get names place ≡ Some c.args.term.now)) seen c.find.ensures.found
 
-pub returns-in_err-place-clause-present : goal.returns-in_err-place-clause-present
-returns-in_err-place-clause-present c =
-    IsSome-new c.args.self.now c.args.term.now c.from_residual.result c.from_residual.ensures
-    (missing c.self.inside.terms.keys c.args.self.now c.args.term.now c.self.view_is c.in_err-place.ensures.index)
-
-pub returns-in_err-place-clause-absent : goal.returns-in_err-place-clause-absent
-returns-in_err-place-clause-absent c =
-    IsNone-new c.args.self.now c.args.term.now c.from_residual.result c.from_residual.ensures
-    (missing c.self.inside.terms.keys c.args.self.now c.args.term.now c.self.view_is c.in_err-place.ensures.index)
-
-pub returns-clause-place : goal.returns-clause-place
-returns-clause-place c =
-    let f = found c.self.inside.terms.keys c.args.self.now c.args.term.now c.in_ok-place.place c.self.view_is c.in_ok-place.ensures.index in
-    ap (slice_get c.args.self.now) f.1 ∙ slice_get-place_of c.args.self.now c.args.term.now f.0
+  missing : IfNone c.find.result ((place : ℕ) → slice_get c.args.self.now place ≢ Some c.args.term.now)
+  missing = subst (λ names. IfNone c.find.result ((place : ℕ) → slice_get names place ≢ Some c.args.term.now)) seen c.find.ensures.absent
 
 pub returns-clause-number : goal.returns-clause-number
 returns-clause-number c =
-    (found c.self.inside.terms.keys c.args.self.now c.args.term.now c.in_ok-place.place c.self.view_is c.in_ok-place.ensures.index).1
+    number_found c.args.self.now c.args.term.now (subst AreDistinct c.self.view_is c.self.invariant.distinct) c.find.result (found c)
 
 pub returns-clause-present : goal.returns-clause-present
-returns-clause-present c =
-    IsSome-named c.args.self.now c.args.term.now c.in_ok-place.place
-    (found c.self.inside.terms.keys c.args.self.now c.args.term.now c.in_ok-place.place c.self.view_is c.in_ok-place.ensures.index).0
+returns-clause-present c = present c.args.self.now c.args.term.now c.find.result (found c) (missing c)
 
 pub returns-clause-absent : goal.returns-clause-absent
-returns-clause-absent c =
-    IsNone-named c.args.self.now c.args.term.now c.in_ok-place.place
-    (found c.self.inside.terms.keys c.args.self.now c.args.term.now c.in_ok-place.place c.self.view_is c.in_ok-place.ensures.index).0
+returns-clause-absent c = absent c.args.self.now c.args.term.now c.find.result (found c) (missing c)
