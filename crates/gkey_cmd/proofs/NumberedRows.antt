@@ -1,6 +1,6 @@
 -- Triples in numbers.
-use Rattle.std.proofs.Common.{inl, inr, List, [], ◌∷◌, ◌++◌, ℕ, Bool, true, Option, Some, None, All, Contains, IsSome, if◌then◌else◌, map, length, slice_get, slice_index, ◌↔◌, get_or, take, reverse, ◌≡◌, ◌⊎◌, ◌<◌, ◌≤◌, ◌+◌, ◌*◌, IfSome, refl, sym, ◌∙◌, ap, subst, arith, append_assoc}
-use Rattle.std.proofs.lemmas.List.{map-append, length-map, reverse-append, take_more}
+use Rattle.std.proofs.Common.{inl, inr, List, [], ◌∷◌, ◌++◌, ℕ, Bool, true, Option, Some, None, All, Contains, IsSome, if◌then◌else◌, map, length, slice_get, slice_index, ◌↔◌, get_or, take, drop, reverse, ◌≡◌, ◌⊎◌, ◌<◌, ◌≤◌, ◌+◌, ◌-◌, ◌*◌, IfSome, refl, sym, ◌∙◌, ap, subst, arith, append_assoc}
+use Rattle.std.proofs.lemmas.List.{map-append, length-map, reverse-append, take_more, drop_more, length-drop}
 use Rattle.std.proofs.lemmas.List.Elements.{All-nil, All-cons}
 use Rattle.std.proofs.lemmas.Bool.{cases_Bool}
 use Rattle.std.proofs.lemmas.Option.{slice_get_within, get_or_from_slice_get, slice_get-get_or}
@@ -16,7 +16,7 @@ use Rattle.term_table.specs.Folding.{folds_of, IsLiteralAt}
 use Rattle.key_file.specs.KeyShape.{KeyShape}
 use Rattle.key_file.specs.Compile.{key_terms}
 use Rattle.gkey_cmd.specs.Numbered.{triple_terms, terms_of, row_of, names_for, rdf_type, type_number, graph_of, AreAlikeFor, AreSameGraph}
-use Rattle.gkey_cmd.specs.Rows.{StandFor}
+use Rattle.gkey_cmd.specs.Rows.{StandFor, in_threes}
 use Rattle.gkey_cmd.specs.declared.rows.Rows.{Rows}
 
 -- each term of a triple is a name
@@ -67,22 +67,17 @@ pub rows_stay : (names more : List Term) (ts : List Triple) → AreNamed names t
 rows_stay names more [] h = refl
 rows_stay names more (t ∷ ts) h = let a = row_stays names more t h.0 in let b = rows_stay names more ts h.1 in cc
 
-terms_of-push : (done : List Triple) (t : Triple) → terms_of (done ++ t ∷ []) ≡ terms_of done ++ triple_terms t
-terms_of-push [] t = refl
-terms_of-push (u ∷ us) t = ap (λ ts. u.subject ∷ u.predicate ∷ u.object ∷ ts) (terms_of-push us t)
+terms_of-append : (done more : List Triple) → terms_of (done ++ more) ≡ terms_of done ++ terms_of more
+terms_of-append [] more = refl
+terms_of-append (u ∷ us) more = ap (λ ts. u.subject ∷ u.predicate ∷ u.object ∷ ts) (terms_of-append us more)
 
-length-terms_of : (ts : List Triple) → length (terms_of ts) ≡ 3 * length ts
+pub length-terms_of : (ts : List Triple) → length (terms_of ts) ≡ 3 * length ts
 length-terms_of [] = refl
 length-terms_of (t ∷ ts) = let e = length-terms_of ts in omega arith
 
 -- three names a triple at most
 pub few_names : (ts : List Triple) → length (names_of (terms_of ts)) ≤ 3 * length ts
 few_names ts = let a = (length-with_terms [] (terms_of ts)).1 in let b = length-terms_of ts in omega arith
-
--- names that stay in their places, with the terms of one triple more
-terms_more : (names more : List Term) (done : List Triple) (t : Triple) → names ≡ names_of (terms_of done) → more ≡ with_terms names (triple_terms t) → more ≡ names_of (terms_of (done ++ t ∷ []))
-terms_more names more done t e m =
-    m ∙ ap (λ ns. with_terms ns (triple_terms t)) e ∙ sym (names_of-append (terms_of done) (triple_terms t)) ∙ ap names_of (sym (terms_of-push done t))
 
 -- numbers of names are below their count
 below : (names : List Term) (u : Term) (count : ℕ) → is_named names u ≡ true → length names ≤ count → place_of names u < count
@@ -105,18 +100,6 @@ rows_within names (t ∷ ts) count h le =
 pub all_named : (names : List Term) (ts : List Triple) → AreNamed (with_terms names (terms_of ts)) ts
 all_named names [] = tt
 all_named names (t ∷ ts) = (IsNamed-more (with_terms names (triple_terms t)) (terms_of ts) t (IsNamed-added names t), all_named (with_terms names (triple_terms t)) ts)
-
--- what interning gives is the row
-pub interned_row : (one two three : List Term) (t : Triple) (s p o : ℕ) → slice_get one s ≡ Some t.subject → two ≡ with_term one t.predicate → slice_get two p ≡ Some t.predicate →
-    three ≡ with_term two t.object → slice_get three o ≡ Some t.object → AreDistinct three → s ∷ p ∷ o ∷ [] ≡ row_of three t
-interned_row one two three t s p o at_s e at_p f at_o d =
-    let two_s : slice_get two s ≡ Some t.subject = subst (λ ns. slice_get ns s ≡ Some t.subject) (sym e) (slice_get-with_term one t.predicate s t.subject at_s) in
-    let three_s : slice_get three s ≡ Some t.subject = subst (λ ns. slice_get ns s ≡ Some t.subject) (sym f) (slice_get-with_term two t.object s t.subject two_s) in
-    let three_p : slice_get three p ≡ Some t.predicate = subst (λ ns. slice_get ns p ≡ Some t.predicate) (sym f) (slice_get-with_term two t.object p t.predicate at_p) in
-    let a = place_of-at three d t.subject s three_s in
-    let b = place_of-at three d t.predicate p three_p in
-    let g = place_of-at three d t.object o at_o in
-    cc
 
 pub reverse_twice : (ts : List Triple) → reverse (reverse ts) ≡ ts
 reverse_twice [] = refl
@@ -174,15 +157,41 @@ folding_of names rows flags o alike e count above again literals others =
 pub named_of : (r : Rows) (ts : List Triple) → StandFor r ts → AreNamed r.names ts
 named_of r ts s = subst (λ ns. AreNamed ns ts) (sym s.names) (all_named [] ts)
 
--- one triple more
-pub stand_more : (old new : Rows) (done : List Triple) (t : Triple) → StandFor old done → new.names ≡ with_terms old.names (triple_terms t) →
-    new.rows.items ≡ old.rows.items ++ row_of new.names t ∷ [] → StandFor new (done ++ t ∷ [])
-stand_more old new done t s m e = record {
-  names = terms_more old.names new.names done t s.names m;
+-- the numbers of triples' terms, in threes
+pub in_threes-terms : (names : List Term) (ts : List Triple) → in_threes (map (place_of names) (terms_of ts)) ≡ map (row_of names) ts
+in_threes-terms names [] = refl
+in_threes-terms names (t ∷ ts) = ap (λ rows. row_of names t ∷ rows) (in_threes-terms names ts)
+
+-- numbers from a place on, in threes: three more make one row more, and fewer than three none
+pub in_threes-more : (numbers : List ℕ) (at : ℕ) (d e f : ℕ) → at + 3 ≤ length numbers →
+    in_threes (drop at numbers) ≡ (get_or numbers at d ∷ get_or numbers (at + 1) e ∷ get_or numbers (at + 2) f ∷ []) ∷ in_threes (drop (at + 3) numbers)
+in_threes-more numbers at d e f h =
+    let s = drop_more numbers at d (omega arith) in
+    let p = drop_more numbers (at + 1) e (omega arith) in
+    let o = drop_more numbers (at + 2) f (omega arith) in
+    let two : at + 1 + 1 ≡ at + 2 = omega arith in
+    let three : at + 2 + 1 ≡ at + 3 = omega arith in
+    ap in_threes
+    (s ∙ ap (λ l. get_or numbers at d ∷ l) (p ∙ ap (λ l. get_or numbers (at + 1) e ∷ l) (ap (λ n. drop n numbers) two ∙ o ∙ ap (λ n. get_or numbers (at + 2) f ∷ drop n numbers) three)))
+
+few : (l : List ℕ) → length l < 3 → in_threes l ≡ []
+few [] h = refl
+few (s ∷ []) h = refl
+few (s ∷ p ∷ []) h = refl
+few (s ∷ p ∷ o ∷ rest) h = absurd (omega arith)
+
+pub in_threes-none : (numbers : List ℕ) (at : ℕ) → length numbers - at < 3 → in_threes (drop at numbers) ≡ []
+in_threes-none numbers at h = few (drop at numbers) (let size = length-drop at numbers in omega arith)
+
+-- more triples
+pub stand_more : (old new : Rows) (done more : List Triple) → StandFor old done → new.names ≡ with_terms old.names (terms_of more) →
+    new.rows.items ≡ old.rows.items ++ map (row_of new.names) more → StandFor new (done ++ more)
+stand_more old new done more s m e = record {
+  names = m ∙ ap (λ ns. with_terms ns (terms_of more)) s.names ∙ sym (names_of-append (terms_of done) (terms_of more)) ∙ ap names_of (sym (terms_of-append done more));
   rows =
       let same : map (row_of new.names) done ≡ old.rows.items =
-      subst (λ ns. map (row_of ns) done ≡ map (row_of old.names) done) (sym m) (rows_stay old.names (triple_terms t) done (named_of old done s)) ∙ sym s.rows in
-      e ∙ ap (λ rs. rs ++ row_of new.names t ∷ []) (sym same) ∙ sym (map-append (row_of new.names) done (t ∷ []));
+      subst (λ ns. map (row_of ns) done ≡ map (row_of old.names) done) (sym m) (rows_stay old.names (terms_of more) done (named_of old done s)) ∙ sym s.rows in
+      e ∙ ap (λ rs. rs ++ map (row_of new.names) more) (sym same) ∙ sym (map-append (row_of new.names) done more);
 }
 
 -- at most three names a triple
@@ -195,9 +204,13 @@ pub add_one : (all left rest done : List Triple) (t : Triple) → all ≡ done +
 add_one all left rest done t e f =
     e ∙ ap (λ ts. done ++ reverse ts) f ∙ ap (λ ts. done ++ ts) (reverse-append rest (t ∷ [])) ∙ sym (append_assoc done (t ∷ []) (reverse rest))
 
--- three names at most come with a triple
-pub names_more : (old new : List Term) (t : Triple) → new ≡ with_terms old (triple_terms t) → length new ≤ length old + 3
-names_more old new t e = let a = (length-with_terms old (triple_terms t)).1 in let b = ap length e in omega arith
+-- the terms of one more triple
+pub terms_more : (done : List Triple) (t : Triple) (none one two three : List Term) → none ≡ terms_of done → one ≡ none ++ t.subject ∷ [] →
+    two ≡ one ++ t.predicate ∷ [] → three ≡ two ++ t.object ∷ [] → three ≡ terms_of (done ++ t ∷ [])
+terms_more done t none one two three e s p o =
+    o ∙ ap (λ l. l ++ t.object ∷ []) p ∙ ap (λ l. (l ++ t.predicate ∷ []) ++ t.object ∷ []) s
+    ∙ ap (λ l. l ++ t.object ∷ []) (append_assoc none (t.subject ∷ []) (t.predicate ∷ [])) ∙ append_assoc none (t.subject ∷ t.predicate ∷ []) (t.object ∷ [])
+    ∙ ap (λ l. l ++ triple_terms t) e ∙ sym (terms_of-append done (t ∷ []))
 
 -- ---- the graph in numbers
 

@@ -1,5 +1,5 @@
 -- Triples in numbers, taken in a few at a time, and what is made of them (this project's own).
-use Rattle.std.specs.Prelude.{List, map, length, ◌≡◌, ◌≤◌, ◌^◌}
+use Rattle.std.specs.Prelude.{ℕ, List, [], ◌∷◌, map, length, ◌≡◌, ◌≤◌, ◌^◌}
 use Rattle.gk_base.specs.declared.term.Triple.{Triple}
 use Rattle.term_table.specs.Numbering.{names_of}
 use Rattle.key_file.specs.KeyShape.{KeyShape}
@@ -12,6 +12,11 @@ use Rattle.gkey_cmd.specs.declared.numbering.Numbered.{Numbered}
 pub record StandFor (r : Rows) (triples : List Triple) : Type 0 where
   pub names : r.names ≡ names_of (terms_of triples)
   pub rows : r.rows.items ≡ map (row_of r.names) triples
+
+-- numbers in threes, each a row
+abbrev pub in_threes : List ℕ → List (List ℕ)
+in_threes (s ∷ p ∷ o ∷ rest) = (s ∷ p ∷ o ∷ []) ∷ in_threes rest
+in_threes rest = []
 
 -- they stand for triples that are no more than a graph may have
 abbrev pub AreFew : Rows → Type 0

@@ -2,9 +2,8 @@
 
 ghost use Rattle.std.specs.Prelude.{◌≡◌, ◌<◌, ◌+◌, ◌*◌, ◌^◌, [], ◌++◌, length, slice_get, Some, OnOk, IfOk, List};
 ghost use Rattle.gk_base.specs.declared.term.Triple.{Triple as AnyTriple};
-ghost use Rattle.term_table.specs.Numbering.{with_term, with_terms};
-ghost use Rattle.gkey_cmd.specs.Numbered.{triple_terms, row_of};
-ghost use Rattle.gkey_cmd.specs.Rows.{StandFor};
+ghost use Rattle.gkey_cmd.specs.Numbered.{terms_of};
+ghost use Rattle.gkey_cmd.specs.Rows.{StandFor, in_threes};
 
 use gk_base::{NoMemory, Term, Triple};
 use std::alloc::Global;
@@ -18,31 +17,32 @@ pub struct Rows {
     pub rows: Vec<[u32; 3]>,
 }
 
-/// The number of a subject, which becomes a name. Most files have the triples of one subject together, so the number of
-/// the subject before is tried first.
-fn subject_number(names: &mut Names, before: Option<u32>, subject: Term) -> Result<u32, NoMemory>
-    requires { length names.old + 1 < 2 ^ 32 }
-    ensures place { IfOk result (λ place. slice_get names.new place ≡ Some subject) }
-    ensures ok { OnOk result (names.new ≡ with_term names.old subject) }
+/// The terms of these triples, in order. It leaves the list empty.
+fn take_terms(alloc: Global, triples: &mut Vec<Triple>) -> Result<Vec<Term>, NoMemory>
+    requires { 3 * length triples.old.items < 2 ^ 32 }
+    ensures empty { OnOk result (triples.new.items ≡ []) }
+    ensures terms { IfOk result (λ terms. terms.items ≡ terms_of triples.old.items) }
 {
-    if let Some(number) = before {
-        if number < names.len() && *names.term(number) == subject {
-            return Ok(number);
-        }
+    let mut terms = Vec::with_capacity(alloc, 3 * triples.len())?;
+    triples.reverse();
+    while let Some(triple) = triples.pop() {
+        terms.push(triple.subject)?;
+        terms.push(triple.predicate)?;
+        terms.push(triple.object)?;
     }
-    names.intern(subject)
+    Ok(terms)
 }
 
-/// A triple in numbers. Its terms become names. `before` is the number of the subject before.
-fn row_of(names: &mut Names, before: Option<u32>, triple: Triple) -> Result<[u32; 3], NoMemory>
-    requires { length names.old + 3 < 2 ^ 32 }
-    ensures names { OnOk result (names.new ≡ with_terms names.old (triple_terms triple)) }
-    ensures row { IfOk result (λ row. row ≡ row_of names.new triple) }
+/// Appends these numbers as rows, three a row.
+fn push_rows(rows: &mut Vec<[u32; 3]>, numbers: &[u32]) -> Result<(), NoMemory>
+    ensures { OnOk result (rows.new.items ≡ rows.old.items ++ in_threes numbers.now) }
 {
-    let subject = subject_number(names, before, triple.subject)?;
-    let predicate = names.intern(triple.predicate)?;
-    let object = names.intern(triple.object)?;
-    Ok([subject, predicate, object])
+    let mut at = 0;
+    while numbers.len() - at >= 3 {
+        rows.push([numbers[at], numbers[at + 1], numbers[at + 2]])?;
+        at += 3;
+    }
+    Ok(())
 }
 
 impl Rows {
@@ -62,12 +62,8 @@ impl Rows {
         ensures empty { OnOk result (triples.new.items ≡ []) }
         ensures stand { OnOk result ((before : List AnyTriple) → StandFor self.old before → StandFor self.new (before ++ triples.old.items)) }
     {
-        triples.reverse();
-        while let Some(triple) = triples.pop() {
-            let before = self.rows.last().map(|row| row[0]);
-            let row = row_of(&mut self.names, before, triple)?;
-            self.rows.push(row)?;
-        }
-        Ok(())
+        let terms = take_terms(*self.rows.allocator(), triples)?;
+        let numbers = self.names.intern_all(terms)?;
+        push_rows(&mut self.rows, &numbers)
     }
 }
