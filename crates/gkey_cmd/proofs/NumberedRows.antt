@@ -7,8 +7,8 @@ use Rattle.std.proofs.lemmas.Option.{slice_get_within, get_or_from_slice_get, sl
 use Rattle.gk_base.specs.Term.{is_literal}
 use Rattle.gk_base.specs.declared.term.Term.{Term}
 use Rattle.gk_base.specs.declared.term.Triple.{Triple}
-use Rattle.term_table.specs.Numbering.{is_named, place_of, with_term, with_terms, names_of, AreDistinct}
-use Rattle.term_table.proofs.NumberingLemmas.{slice_get-place_of, is_named-at, place_of-at, place_of-within, slice_get-with_term, is_named-added, is_named-with_term, is_named-with_terms, place_of-with_terms, names_of-append, length-with_terms}
+use Rattle.term_table.specs.Numbering.{is_named, place_of, with_term, with_terms, names_of}
+use Rattle.term_table.proofs.NumberingLemmas.{slice_get-place_of, is_named-at, place_of-within, is_named-added, is_named-with_term, is_named-with_terms, place_of-with_terms, names_of-append, length-with_terms}
 use Rattle.chase_laws.specs.Shape.{Shape}
 use Rattle.chase_laws.specs.Graph.{NumberedGraph, IsFolding}
 use Rattle.chase_laws.specs.SameRows.{AreUnfolded}

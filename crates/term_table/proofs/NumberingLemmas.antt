@@ -194,29 +194,6 @@ AreDistinct-with_term names t distinct =
               ]
         ]
 
--- terms that the derived `==` tells apart are all different
-pub AreDistinct-from_IsDistinct : (names : List Term) → IsDistinct (eq-value).it names → AreDistinct names
-AreDistinct-from_IsDistinct names distinct = record { one_place = one }
-  where
-    decides : (t u : Term) → Decides ((eq-value).it t u) (t ≡ u)
-    decides t u = (λ h. same_term-true t u (sym (derived_eq t u) ∙ h), λ e. derived_eq t u ∙ (same_term-Decides t u).1 e)
-
-    differ : (i j : ℕ) (t : Term) → i < j → slice_get names i ≡ Some t → slice_get names j ≡ Some t → ⊥
-    differ i j t below at_i at_j =
-        AllPairs-from_IsDistinct decides names distinct i j t below (slice_get_within names j t at_j)
-        (get_or_from_slice_get names i t t at_i ∙ sym (get_or_from_slice_get names j t t at_j))
-
-    one : (i j : ℕ) (t : Term) → slice_get names i ≡ Some t → slice_get names j ≡ Some t → i ≡ j
-    one i j t at_i at_j =
-        elim (cases_order i j) [
-          | inl same ↦ same
-          | inr differs ↦
-              elim differs [
-                | inl below ↦ absurd (differ i j t below at_i at_j)
-                | inr above ↦ absurd (differ j i t above at_j at_i)
-              ]
-        ]
-
 -- the number of a term that was named stays when a term comes
 pub place_of-with_term : (names : List Term) (t u : Term) → is_named names u ≡ true → place_of (with_term names t) u ≡ place_of names u
 place_of-with_term names t u h =

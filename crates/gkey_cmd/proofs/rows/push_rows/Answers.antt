@@ -1,6 +1,5 @@
 -- Row by row.
 use Rattle.std.proofs.Common.{◌++◌, ◌∙◌, sym, ap, append-nil}
-use Rattle.gkey_cmd.specs.Rows.{in_threes}
 use Rattle.gkey_cmd.proofs.NumberedRows.{in_threes-none}
 use Rattle.gkey_cmd.proofs.rows.push_rows.Goals as goal
 

@@ -1,6 +1,6 @@
 -- Triple by triple.
-use Rattle.std.proofs.Common.{[], ◌∷◌, ◌++◌, sym, arith}
-use Rattle.gkey_cmd.proofs.NumberedRows.{reverse_twice, add_one, terms_more}
+use Rattle.std.proofs.Common.{[], ◌∷◌, ◌++◌}
+use Rattle.gkey_cmd.proofs.NumberedRows.{add_one, terms_more}
 use Rattle.gkey_cmd.proofs.rows.take_terms.Goals as goal
 
 pub loop-triple-preserved : goal.loop-triple-preserved

@@ -1,5 +1,5 @@
 -- The triples' terms are numbered, and their numbers go into rows.
-use Rattle.std.proofs.Common.{◌≡◌, ◌++◌, map, length, sym, ap, ◌∙◌, arith}
+use Rattle.std.proofs.Common.{◌++◌, map, length, ap, ◌∙◌, arith}
 use Rattle.std.proofs.lemmas.Result.{on_ok_weaker}
 use Rattle.term_table.specs.Numbering.{with_terms, place_of}
 use Rattle.gkey_cmd.specs.Rows.{in_threes}
@@ -20,8 +20,8 @@ returns-clause-stand c =
     let new : Rows = record { names = names; rows = c.push_rows.new.rows } in
     on_ok_weaker c.push_rows.result
     (λ pushed before s.
-      stand_more c.args.self.now new before triples s (c.in_ok-numbers.ensures.ok ∙ ap (with_terms c.args.self.now.names) c.in_ok-terms.ensures.terms)
-      (pushed
-      ∙ ap (λ ns. c.args.self.now.rows.items ++ in_threes ns) (c.deref.ensures.value ∙ c.in_ok-numbers.ensures.numbers ∙ ap (map (place_of names)) c.in_ok-terms.ensures.terms)
-      ∙ ap (λ rs. c.args.self.now.rows.items ++ rs) (in_threes-terms names triples)))
+    stand_more c.args.self.now new before triples s (c.in_ok-numbers.ensures.ok ∙ ap (with_terms c.args.self.now.names) c.in_ok-terms.ensures.terms)
+    (pushed
+    ∙ ap (λ ns. c.args.self.now.rows.items ++ in_threes ns) (c.deref.ensures.value ∙ c.in_ok-numbers.ensures.numbers ∙ ap (map (place_of names)) c.in_ok-terms.ensures.terms)
+    ∙ ap (λ rs. c.args.self.now.rows.items ++ rs) (in_threes-terms names triples)))
     c.push_rows.ensures
