@@ -15,7 +15,7 @@ fn three_each(rows: &[[u32; 3]])
     let _ = rows;
 }
 
-/// The rows ascending, each once.
+/// The rows ascending, each once. A key of three numbers compares faster than the row itself, which is compared in a loop.
 pub(crate) fn sorted(rows: Vec<[u32; 3]>) -> Vec<[u32; 3]>
     ensures ascending { IsStrictlySortedBy (slice_cmp nat_cmp) result.items }
     ensures three { All (λ row. length row ≡ 3) result.items }
@@ -23,7 +23,7 @@ pub(crate) fn sorted(rows: Vec<[u32; 3]>) -> Vec<[u32; 3]>
 {
     three_each(&rows);
     let mut rows = rows;
-    rows.sort_unstable();
+    rows.sort_unstable_by_key(|row| (row[0], row[1], row[2]));
     rows.dedup();
     rows
 }
