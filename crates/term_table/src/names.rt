@@ -3,7 +3,7 @@
 ghost use Rattle.std.specs.Prelude.{◌≡◌, ℕ, ◌+◌, ◌-◌, ◌^◌, ◌<◌, ◌≤◌, ◌↔◌, [], length, map, slice_get, slice_index, Some, IsSome, IsNone, IfSome, IfOk, OnOk, OnErr, Contains};
 ghost use Rattle.term_table.specs.Folding.{FoldsOf, folds_of, IsLiteralAt};
 ghost use Rattle.term_table.specs.Index.{hash_of};
-ghost use Rattle.term_table.specs.Numbering.{with_term, with_terms, place_of, AreDistinct};
+ghost use Rattle.term_table.specs.Numbering.{with_term, with_terms, place_of, AreDistinct, HasTakenSome};
 
 use crate::ahead::likely_places;
 use crate::folding::folds;
@@ -92,6 +92,7 @@ impl Names {
         requires hash { hash ≡ hash_of term }
         ensures place { IfOk result (λ place. slice_get self.new place ≡ Some term) }
         ensures ok { OnOk result (self.new ≡ with_term self.old term) }
+        ensures err { OnErr result (self.new ≡ self.old) }
         ensures distinct { AreDistinct self.new }
     {
         if let Some(name) = self.terms.get(likely as usize) {
@@ -104,11 +105,13 @@ impl Names {
 
     /// The numbers of these terms, in their order. Those that are no names yet become names one after another, as by
     /// `intern`. It is faster than one call for each, since the memory of many look-ups is fetched at once. After
-    /// `NoMemory` some of the terms may have become names.
+    /// `NoMemory` the first of the terms may have become names; no name is lost.
     pub fn intern_all(&mut self, mut terms: Vec<Term>) -> Result<Vec<u32>, NoMemory>
         requires { length self.old + length terms.items < 2 ^ 32 }
         ensures numbers { IfOk result (λ numbers. numbers.items ≡ map (place_of self.new) terms.items) }
         ensures ok { OnOk result (self.new ≡ with_terms self.old terms.items) }
+        // Else the first of the terms have become names, and no name is lost.
+        ensures err { OnErr result (HasTakenSome self.old terms.items self.new) }
         ensures distinct { AreDistinct self.new }
     {
         let alloc = *self.terms.allocator();
