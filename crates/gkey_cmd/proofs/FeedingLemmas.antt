@@ -1,5 +1,5 @@
 -- What was read so far of a graph: whether it is refused already, and what its reader then has.
-use Rattle.std.proofs.Common.{Global, Vec, List, [], ◌∷◌, ◌++◌, ℕ, zero, suc, ◌+◌, ◌-◌, ◌*◌, ◌^◌, ◌<◌, ◌≤◌, true, false, cond, Option, Some, None, IfSome, IsSomeAnd, Result, Ok, Err, IsOk, true≢false, length, take, drop, ◌≡◌, ◌∙◌, refl, sym, ap, ap₂, subst, arith, inl, inr, replicate, append_assoc, append-nil, length-append}
+use Rattle.std.proofs.Common.{List, [], ◌∷◌, ◌++◌, ℕ, zero, suc, ◌+◌, ◌-◌, ◌*◌, ◌^◌, ◌<◌, ◌≤◌, true, false, cond, Option, Some, None, IfSome, IsSomeAnd, Result, Ok, Err, IsOk, true≢false, length, take, drop, ◌≡◌, ◌∙◌, refl, sym, ap, ap₂, subst, arith, inl, inr, replicate, append_assoc, append-nil, length-append}
 use Rattle.std.proofs.lemmas.Bool.{cases_Bool}
 use Rattle.std.proofs.lemmas.List.{take-append-drop, take-append-le, length-replicate, nil_from_length}
 use Rattle.std.proofs.lemmas.List.Elements.{All-replicate}
@@ -115,7 +115,7 @@ stopped_by reader stop e s taken bytes h =
 pub open_running : (reader : Reader) (taken : List Triple) (bytes : List ℕ) → reader.running ≡ true → HasRead reader taken bytes → IsOpen reader.limits bytes
 open_running reader taken bytes e h =
     let s = standing reader taken bytes e h in
-    open_so_far reader.limits bytes (taken ++ reader.state.triples.items) s.within s.good (all_few reader.limits reader.state taken bytes s)
+    open_so_far reader.limits bytes (taken ++ reader.state.triples) s.within s.good (all_few reader.limits reader.state taken bytes s)
 
 -- ---- what a shelf tells of its bytes
 
@@ -261,9 +261,9 @@ stops_soon limits bytes gone None h k = k
 stops_soon limits bytes gone (Some rest) h k = record { gone = gone; whole = k; soon = λ n refusal le. h n le refusal }
 
 -- at its end the file has the triples that were taken and the last ones
-pub finish_says : (reader : Reader) (last : Vec Triple Global) (limits : Limits) (taken : List Triple) (bytes : List ℕ) → reader.limits ≡ limits → HasRead reader taken bytes →
-    ((done : List Triple) (seen : List ℕ) → HasRead reader done seen → FinishSays reader.limits done seen (Ok last)) → FileSays limits bytes (Ok (taken ++ last.items))
-finish_says reader last limits taken bytes e h says = subst (λ l. FileSays l bytes (Ok (taken ++ last.items))) e (says taken bytes h)
+pub finish_says : (reader : Reader) (last : List Triple) (limits : Limits) (taken : List Triple) (bytes : List ℕ) → reader.limits ≡ limits → HasRead reader taken bytes →
+    ((done : List Triple) (seen : List ℕ) → HasRead reader done seen → FinishSays reader.limits done seen (Ok last)) → FileSays limits bytes (Ok (taken ++ last))
+finish_says reader last limits taken bytes e h says = subst (λ l. FileSays l bytes (Ok (taken ++ last))) e (says taken bytes h)
 
 module _ {K : Type 0} (shelf : Shelf.Ghosts K) (old mid new : K) (limits : Limits) (name : List ℕ) (count : shelf.faults mid ≡ shelf.faults old)
     (asked : shelf.asked new ≡ Some name) (found : IfSome (shelf.held old) (λ files. shelf.rest mid ≡ Some (bytes_of files name))) where
@@ -290,7 +290,7 @@ module _ {K : Type 0} (shelf : Shelf.Ghosts K) (old mid new : K) (limits : Limit
 
   -- it was read to its end, and then refused
   pub gives_no_rows : (stop : ReadStop) (seen : Limits) (after : Reader) (rows : Rows) → seen ≡ limits → after.limits ≡ seen → FeedsAll {A = Unit {0}} shelf mid new seen after rows (Ok tt) →
-      ((taken : List Triple) (bytes : List ℕ) → HasRead after taken bytes → FinishSays {A = Global} after.limits taken bytes (Err stop)) → GivesRows shelf old new limits name (Err (Stopped stop))
+      ((taken : List Triple) (bytes : List ℕ) → HasRead after taken bytes → FinishSays after.limits taken bytes (Err stop)) → GivesRows shelf old new limits name (Err (Stopped stop))
   gives_no_rows NoMemory seen after rows e same h says = h.0 ∙ count
   gives_no_rows (Refused refusal) seen after rows e same h says =
       let gone = h.1.1 in

@@ -1,6 +1,6 @@
 -- Triples in numbers.
-use Rattle.std.proofs.Common.{inl, inr, List, [], ◌∷◌, ◌++◌, ℕ, Bool, true, Option, Some, None, All, Contains, IsSome, if◌then◌else◌, map, length, slice_get, slice_index, ◌↔◌, get_or, take, drop, reverse, ◌≡◌, ◌⊎◌, ◌<◌, ◌≤◌, ◌+◌, ◌-◌, ◌*◌, IfSome, refl, sym, ◌∙◌, ap, subst, arith, append_assoc}
-use Rattle.std.proofs.lemmas.List.{map-append, length-map, reverse-append, take_more, drop_more, length-drop}
+use Rattle.std.proofs.Common.{inl, inr, List, [], ◌∷◌, ◌++◌, ℕ, Bool, true, Option, Some, None, All, Contains, IsSome, if◌then◌else◌, map, length, slice_get, slice_index, ◌↔◌, get_or, take, drop, ◌≡◌, ◌⊎◌, ◌<◌, ◌≤◌, ◌+◌, ◌-◌, ◌*◌, IfSome, refl, sym, ◌∙◌, ap, subst, arith}
+use Rattle.std.proofs.lemmas.List.{map-append, length-map, take_more, drop_more, length-drop}
 use Rattle.std.proofs.lemmas.List.Elements.{All-nil, All-cons}
 use Rattle.std.proofs.lemmas.Bool.{cases_Bool}
 use Rattle.std.proofs.lemmas.Option.{slice_get_within, get_or_from_slice_get, slice_get-get_or}
@@ -15,7 +15,9 @@ use Rattle.chase_laws.specs.SameRows.{AreUnfolded}
 use Rattle.term_table.specs.Folding.{folds_of, IsLiteralAt}
 use Rattle.key_file.specs.KeyShape.{KeyShape}
 use Rattle.key_file.specs.Compile.{key_terms}
-use Rattle.gkey_cmd.specs.Numbered.{triple_terms, terms_of, row_of, names_for, rdf_type, type_number, graph_of, AreAlikeFor, AreSameGraph}
+use Rattle.term_list.specs.Triples.{triple_terms, terms_of}
+use Rattle.term_list.proofs.TripleLemmas.{terms_of-append, length-terms_of}
+use Rattle.gkey_cmd.specs.Numbered.{row_of, names_for, rdf_type, type_number, graph_of, AreAlikeFor, AreSameGraph}
 use Rattle.gkey_cmd.specs.Rows.{StandFor, in_threes}
 use Rattle.gkey_cmd.specs.declared.rows.Rows.{Rows}
 
@@ -67,14 +69,6 @@ pub rows_stay : (names more : List Term) (ts : List Triple) → AreNamed names t
 rows_stay names more [] h = refl
 rows_stay names more (t ∷ ts) h = let a = row_stays names more t h.0 in let b = rows_stay names more ts h.1 in cc
 
-terms_of-append : (done more : List Triple) → terms_of (done ++ more) ≡ terms_of done ++ terms_of more
-terms_of-append [] more = refl
-terms_of-append (u ∷ us) more = ap (λ ts. u.subject ∷ u.predicate ∷ u.object ∷ ts) (terms_of-append us more)
-
-pub length-terms_of : (ts : List Triple) → length (terms_of ts) ≡ 3 * length ts
-length-terms_of [] = refl
-length-terms_of (t ∷ ts) = let e = length-terms_of ts in omega arith
-
 -- three names a triple at most
 pub few_names : (ts : List Triple) → length (names_of (terms_of ts)) ≤ 3 * length ts
 few_names ts = let a = (length-with_terms [] (terms_of ts)).1 in let b = length-terms_of ts in omega arith
@@ -100,10 +94,6 @@ rows_within names (t ∷ ts) count h le =
 pub all_named : (names : List Term) (ts : List Triple) → AreNamed (with_terms names (terms_of ts)) ts
 all_named names [] = tt
 all_named names (t ∷ ts) = (IsNamed-more (with_terms names (triple_terms t)) (terms_of ts) t (IsNamed-added names t), all_named (with_terms names (triple_terms t)) ts)
-
-pub reverse_twice : (ts : List Triple) → reverse (reverse ts) ≡ ts
-reverse_twice [] = refl
-reverse_twice (t ∷ ts) = ap reverse (reverse-append (t ∷ []) ts) ∙ reverse-append (reverse ts) (t ∷ []) ∙ ap (λ us. t ∷ us) (reverse_twice ts)
 
 -- one more flag
 pub flag_next : (names : List Term) (i : ℕ) (t : Term) → slice_get names i ≡ Some t → map is_literal (take (i + 1) names) ≡ map is_literal (take i names) ++ is_literal t ∷ []
@@ -197,20 +187,6 @@ stand_more old new done more s m e = record {
 -- at most three names a triple
 pub names_few : (r : Rows) (ts : List Triple) → StandFor r ts → length r.names ≤ 3 * length ts
 names_few r ts s = subst (λ ns. length ns ≤ 3 * length ts) (sym s.names) (few_names ts)
-
--- some triples are numbered, and the others are left, the first of them last: one more is numbered
-pub add_one : (all left rest done : List Triple) (t : Triple) → all ≡ done ++ reverse left → left ≡ rest ++ t ∷ [] →
-    all ≡ (done ++ t ∷ []) ++ reverse rest
-add_one all left rest done t e f =
-    e ∙ ap (λ ts. done ++ reverse ts) f ∙ ap (λ ts. done ++ ts) (reverse-append rest (t ∷ [])) ∙ sym (append_assoc done (t ∷ []) (reverse rest))
-
--- the terms of one more triple
-pub terms_more : (done : List Triple) (t : Triple) (none one two three : List Term) → none ≡ terms_of done → one ≡ none ++ t.subject ∷ [] →
-    two ≡ one ++ t.predicate ∷ [] → three ≡ two ++ t.object ∷ [] → three ≡ terms_of (done ++ t ∷ [])
-terms_more done t none one two three e s p o =
-    o ∙ ap (λ l. l ++ t.object ∷ []) p ∙ ap (λ l. (l ++ t.predicate ∷ []) ++ t.object ∷ []) s
-    ∙ ap (λ l. l ++ t.object ∷ []) (append_assoc none (t.subject ∷ []) (t.predicate ∷ [])) ∙ append_assoc none (t.subject ∷ t.predicate ∷ []) (t.object ∷ [])
-    ∙ ap (λ l. l ++ triple_terms t) e ∙ sym (terms_of-append done (t ∷ []))
 
 -- ---- the graph in numbers
 

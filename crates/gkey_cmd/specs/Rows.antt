@@ -4,7 +4,8 @@ use Rattle.gk_base.specs.declared.term.Triple.{Triple}
 use Rattle.term_table.specs.Numbering.{names_of}
 use Rattle.key_file.specs.KeyShape.{KeyShape}
 use Rattle.key_file.specs.Compile.{patterns_of}
-use Rattle.gkey_cmd.specs.Numbered.{terms_of, row_of, names_for, graph_of, AreSameGraph}
+use Rattle.term_list.specs.Triples.{terms_of}
+use Rattle.gkey_cmd.specs.Numbered.{row_of, names_for, graph_of, AreSameGraph}
 use Rattle.gkey_cmd.specs.declared.rows.Rows.{Rows}
 use Rattle.gkey_cmd.specs.declared.numbering.Numbered.{Numbered}
 

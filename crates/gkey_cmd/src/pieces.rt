@@ -8,10 +8,11 @@ ghost use Rattle.gkey_cmd.specs.Feeding.{FeedsNext, FeedsAll, GivesRows};
 
 use crate::load::{LoadStop, open};
 use crate::rows::Rows;
-use gk_base::{Limits, NoMemory, ReadStop, Text, Triple};
+use gk_base::{Limits, NoMemory, ReadStop, Text};
 use gk_io::{Failed, Shelf};
 use nt_reader::Reader;
 use std::alloc::Global;
+use term_list::Triples;
 
 /// Why the rows of a graph are not to be had.
 #[derive(Clone, Copy)]
@@ -76,14 +77,14 @@ fn feed_all<S: Shelf>(
     shelf: &mut S,
     buf: &mut [u8],
     reader: &mut Reader,
-    triples: &mut Vec<Triple>,
+    triples: &mut Triples,
     rows: &mut Rows,
 ) -> Result<(), GraphStop>
     requires some { 0 < length buf.old }
     requires few { length buf.old ≤ 65536 }
     requires limit { reader.old.limits.triples ≤ 2 ^ 22 }
     requires fresh { HasRead reader.old [] [] }
-    requires none { triples.old.items ≡ [] }
+    requires none { triples.old ≡ [] }
     requires empty { StandFor rows.old [] }
     ensures held { S.held shelf.new ≡ S.held shelf.old }
     ensures asked { S.asked shelf.new ≡ S.asked shelf.old }
@@ -118,7 +119,7 @@ pub fn read_rows<S: Shelf>(
     };
     let mut reader = Reader::new(alloc, limits);
     let mut rows = Rows::new(alloc);
-    let mut triples = Vec::new(alloc);
+    let mut triples = Triples::new(alloc);
     feed_all(shelf, &mut buf, &mut reader, &mut triples, &mut rows)?;
     let mut last = reader.finish()?;
     rows.add(&mut last)?;

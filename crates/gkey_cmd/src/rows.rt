@@ -2,35 +2,19 @@
 
 ghost use Rattle.std.specs.Prelude.{◌≡◌, ◌<◌, ◌+◌, ◌*◌, ◌^◌, [], ◌++◌, length, slice_get, Some, OnOk, IfOk, List};
 ghost use Rattle.gk_base.specs.declared.term.Triple.{Triple as AnyTriple};
-ghost use Rattle.gkey_cmd.specs.Numbered.{terms_of};
 ghost use Rattle.gkey_cmd.specs.Rows.{StandFor, in_threes};
 
-use gk_base::{NoMemory, Term, Triple};
+use gk_base::NoMemory;
 use std::alloc::Global;
+use term_list::Triples;
 use term_table::Names;
 
 /// Triples in numbers, each a row, in their order and with repeats. A number stands for the name at its place. Triples may
-/// come a few at a time, and a term that is a name already is let go at once.
+/// come a few at a time, and only a term that is no name yet is kept.
 #[derive(Drop)]
 pub struct Rows {
     pub names: Names,
     pub rows: Vec<[u32; 3]>,
-}
-
-/// The terms of these triples, in order. It leaves the list empty.
-fn take_terms(alloc: Global, triples: &mut Vec<Triple>) -> Result<Vec<Term>, NoMemory>
-    requires { 3 * length triples.old.items < 2 ^ 32 }
-    ensures empty { OnOk result (triples.new.items ≡ []) }
-    ensures terms { IfOk result (λ terms. terms.items ≡ terms_of triples.old.items) }
-{
-    let mut terms = Vec::with_capacity(alloc, 3 * triples.len())?;
-    triples.reverse();
-    while let Some(triple) = triples.pop() {
-        terms.push(triple.subject)?;
-        terms.push(triple.predicate)?;
-        terms.push(triple.object)?;
-    }
-    Ok(terms)
 }
 
 /// Appends these numbers as rows, three a row.
@@ -57,13 +41,14 @@ impl Rows {
     }
 
     /// Numbers these triples, behind those that came before. It leaves the list empty.
-    pub fn add(&mut self, triples: &mut Vec<Triple>) -> Result<(), NoMemory>
-        requires { length self.old.names + 3 * length triples.old.items < 2 ^ 32 }
-        ensures empty { OnOk result (triples.new.items ≡ []) }
-        ensures stand { OnOk result ((before : List AnyTriple) → StandFor self.old before → StandFor self.new (before ++ triples.old.items)) }
+    pub fn add(&mut self, triples: &mut Triples) -> Result<(), NoMemory>
+        requires { length self.old.names + 3 * length triples.old < 2 ^ 32 }
+        ensures empty { OnOk result (triples.new ≡ []) }
+        ensures stand { OnOk result ((before : List AnyTriple) → StandFor self.old before → StandFor self.new (before ++ triples.old)) }
     {
-        let terms = take_terms(*self.rows.allocator(), triples)?;
-        let numbers = self.names.intern_all(terms)?;
-        push_rows(&mut self.rows, &numbers)
+        let numbers = self.names.intern_all(triples.terms())?;
+        push_rows(&mut self.rows, &numbers)?;
+        triples.clear();
+        Ok(())
     }
 }

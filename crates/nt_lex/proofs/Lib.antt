@@ -13,4 +13,6 @@ pub mod BoundaryLemmas
 pub mod PartLemmas
 pub mod AnswerParts
 pub mod OthersLemmas
+mod TextTotalLemmas
+mod SuffixTotalLemmas
 pub mod TotalLemmas

@@ -1,6 +1,6 @@
 -- The steps of a loop over characters as they are written.
-use Rattle.std.proofs.Common.{◌≡◌, ◌≢◌, ℕ, ◌+◌, ◌<◌, ◌≤◌, Bool, true, false, not, List, [], ◌∷◌, ◌++◌, length, get_or, drop, refl, sym, ap, ap₂, ◌∙◌, subst, arith, append_assoc, slice_range, IsUtf8, encode_utf8, lit<}
-use Rattle.std.proofs.lemmas.Bool.{and_parts, and_from, not-true}
+use Rattle.std.proofs.Common.{◌≡◌, ◌≢◌, ℕ, ◌+◌, ◌<◌, ◌≤◌, Bool, true, false, not, List, [], ◌∷◌, ◌++◌, length, get_or, drop, refl, sym, ap, ap₂, ◌∙◌, subst, inl, inr, arith, append_assoc, slice_range, IsUtf8, encode_utf8, lit<}
+use Rattle.std.proofs.lemmas.Bool.{and_parts, and_from, not-true, not-false, cases_lt}
 use Rattle.std.proofs.lemmas.Bool.Decides.{nat_tests}
 use Rattle.std.proofs.lemmas.List.{append-nil, length-append, drop_more, drop_all}
 use Rattle.std.proofs.lemmas.List.Concat.{flat_map-append}
@@ -133,6 +133,16 @@ module _ (excluded letters : ℕ → Bool) (ex : excluded 0x5C ≡ true) (small 
   stops_byte line end inside out other = record {
     none = λ w more m e. stop_byte excluded letters ex small large high (get_or line end 0) (drop (end + 1) line) more w out other m (sym (drop_more line end 0 inside) ∙ e);
   }
+
+  -- a run that no backslash follows stands for itself
+  pub runs_raw : (line : List ℕ) (from end : ℕ) → from ≤ length line → IsUtf8 (drop from line) → IsRunAt (λ b. not (excluded b)) line from end
+      → (end < length line → get_or line end 0 ≢ 0x5C) → RunsTo may line from (slice_range line from end) end
+  runs_raw line from end inside u run other =
+      goes_end line from (slice_range line from end) end (goes_run line from [] from end (goes_start line from inside) u run)
+      (elim (cases_lt end (length line)) [
+        | inl before ↦ stops_byte line end before (not-false _ (run.stops before)) (other before)
+        | inr past ↦ stops_nil line end past
+      ])
 
   no_escape : (line : List ℕ) (end : ℕ) → end < length line → get_or line end 0 ≡ 0x5C → Stops is_uchar (drop end line)
       → ((l : ℕ) (more : List ℕ) → letters l ≡ true → drop end line ≢ 0x5C ∷ l ∷ more)

@@ -9,9 +9,12 @@ ghost use Rattle.nt_lex.specs.Chars.{is_between, is_pn_chars_base, is_pn_chars_u
 ghost use Rattle.nt_lex.specs.Parts.{OthersIn, LabelSays};
 ghost use Rattle.nt_lex.specs.Reading.{Says};
 
+use crate::lexed::{LexedTerm, owned};
 use crate::scan::byte_at;
-use gk_base::{LexFault, LexStop, Term, Text};
+use gk_base::{LexFault, LexStop, Term};
 use std::alloc::Global;
+use std::borrow::CowSlice;
+use term_list::TermKind;
 
 fn is_between(c: char, low: char, high: char) -> bool
     ensures { result ≡ is_between low high c }
@@ -117,7 +120,7 @@ fn text_from(line: &[u8], from: usize) -> &str
 }
 
 #[tactic(auto, using(crate::proofs::AnswerLemmas::utf_after_byte))]
-pub(crate) fn blank_answer(alloc: Global, line: &[u8], at: usize) -> Result<(Term, usize), LexStop>
+pub(crate) fn blank_answer<'a>(line: &'a [u8], at: usize) -> Result<(LexedTerm<'a>, usize), LexStop>
     requires inside { at < length line.now }
     requires opens { slice_index line.now at ≡ 0x5F }
     requires utf8 { IsUtf8 line.now }
@@ -129,11 +132,30 @@ pub(crate) fn blank_answer(alloc: Global, line: &[u8], at: usize) -> Result<(Ter
     match label_len(text_from(line, at + 2)) {
         Some(len) => {
             let end = at + 2 + len;
-            let label = Text::from_bytes(alloc, &line[at + 2..end])?;
-            Ok((Term::Blank(label), end))
+            let label = CowSlice::Borrowed(&line[at + 2..end]);
+            let node = LexedTerm::new(TermKind::Blank, label, CowSlice::Borrowed(&[]));
+            Ok((node, end))
         }
         None => Err(LexStop::Fault(LexFault::BadBlankNodeLabel)),
     }
+}
+
+/// Reads the blank node whose `_` stands at `at`, and gives the place after its label: the longest run of
+/// PN_CHARS and dots after the first character, less the dots at its end. The line is UTF-8. It takes no
+/// memory: a label stands in the line as it is.
+///
+/// Fault: `BadBlankNodeLabel`.
+pub fn lex_blank<'a>(line: &'a [u8], at: usize) -> Result<(LexedTerm<'a>, usize), LexStop>
+    requires inside { at < length line.now }
+    requires opens { slice_index line.now at ≡ 0x5F }
+    requires utf8 { IsUtf8 line.now }
+    // What was answered is what stands there.
+    ensures so { IsSo (Says line.now at) result }
+    // What stands there was answered.
+    ensures only { (answer : Result (Term × ℕ) LexFault) → Says line.now at answer → Gives result answer }
+    ensures boundary { IfOk result (λ r. IsCharBoundary line.now r.1) }
+{
+    blank_answer(line, at)
 }
 
 /// Reads the blank node whose `_` stands at `at`, and gives the place after its label: the longest run of
@@ -150,5 +172,5 @@ pub fn read_blank(alloc: Global, line: &[u8], at: usize) -> Result<(Term, usize)
     ensures only { (answer : Result (Term × ℕ) LexFault) → Says line.now at answer → Gives result answer }
     ensures boundary { IfOk result (λ r. IsCharBoundary line.now r.1) }
 {
-    blank_answer(alloc, line, at)
+    owned(alloc, blank_answer(line, at))
 }

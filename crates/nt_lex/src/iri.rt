@@ -1,6 +1,7 @@
 //! IRIs.
 
 ghost use Rattle.std.specs.Prelude.{◌≡◌, ◌<◌, ◌≤◌, length, slice_index, IsUtf8, ℕ, Result, IfOk, IfErr};
+ghost use Rattle.std.specs.Cow.{cow_slice_items};
 ghost use Rattle.std.specs.Str.{IsCharBoundary};
 ghost use Rattle.gk_base.specs.declared.term.Term.{Term};
 ghost use Rattle.gk_base.specs.declared.lex_fault.LexFault.{LexFault};
@@ -10,8 +11,11 @@ ghost use Rattle.nt_lex.specs.Parts.{IriAt, IsIriStop};
 ghost use Rattle.nt_lex.specs.Reading.{Says};
 
 use crate::body::iri_body;
-use gk_base::{LexFault, LexStop, Term, Text};
+use crate::lexed::{LexedTerm, owned};
+use gk_base::{LexFault, LexStop, Term};
 use std::alloc::Global;
+use std::borrow::CowSlice;
+use term_list::TermKind;
 
 /// What stands in a scheme after its first letter.
 #[inline]
@@ -44,11 +48,15 @@ fn is_absolute(text: &[u8]) -> bool
 
 #[tactic(auto, using(crate::proofs::AnswerLemmas::utf_after_byte))]
 /// The text of the IRI at `at`, and the place after it.
-pub(crate) fn iri_text(alloc: Global, line: &[u8], at: usize) -> Result<(Vec<u8>, usize), LexStop>
+pub(crate) fn iri_text<'a>(
+    alloc: Global,
+    line: &'a [u8],
+    at: usize,
+) -> Result<(CowSlice<'a, u8>, usize), LexStop>
     requires inside { at < length line.now }
     requires opens { slice_index line.now at ≡ 0x3C }
     requires utf8 { IsUtf8 line.now }
-    ensures found { IfOk result (λ r. IriAt line.now at r.0.items r.1) }
+    ensures found { IfOk result (λ r. IriAt line.now at (cow_slice_items r.0) r.1) }
     ensures fails { IfErr result (IsIriStop line.now at) }
 {
     let (text, end) = iri_body(alloc, line, at + 1)?;
@@ -57,7 +65,7 @@ pub(crate) fn iri_text(alloc: Global, line: &[u8], at: usize) -> Result<(Vec<u8>
     }
     match line[end] {
         b'>' => {
-            if is_absolute(&text) {
+            if is_absolute(text.as_slice()) {
                 Ok((text, end + 1))
             } else {
                 Err(LexStop::Fault(LexFault::RelativeIri))
@@ -68,16 +76,44 @@ pub(crate) fn iri_text(alloc: Global, line: &[u8], at: usize) -> Result<(Vec<u8>
     }
 }
 
-pub(crate) fn iri_answer(alloc: Global, line: &[u8], at: usize) -> Result<(Term, usize), LexStop>
+pub(crate) fn iri_answer<'a>(
+    alloc: Global,
+    line: &'a [u8],
+    at: usize,
+) -> Result<(LexedTerm<'a>, usize), LexStop>
     requires inside { at < length line.now }
     requires opens { slice_index line.now at ≡ 0x3C }
     requires utf8 { IsUtf8 line.now }
     ensures { IsSo (Says line.now at) result }
 {
     match iri_text(alloc, line, at) {
-        Ok((text, end)) => Ok((Term::Iri(Text::from_vec(text)), end)),
+        Ok((text, end)) => {
+            let name = LexedTerm::new(TermKind::Iri, text, CowSlice::Borrowed(&[]));
+            Ok((name, end))
+        }
         Err(stop) => Err(stop),
     }
+}
+
+/// Reads the IRI whose `<` stands at `at`, and gives the place after its `>`. The line is UTF-8. Only a text that
+/// differs from what stands in the line takes memory.
+///
+/// Faults: `BadIri`, `RelativeIri`, `BadEscape`.
+pub fn lex_iri<'a>(
+    alloc: Global,
+    line: &'a [u8],
+    at: usize,
+) -> Result<(LexedTerm<'a>, usize), LexStop>
+    requires inside { at < length line.now }
+    requires opens { slice_index line.now at ≡ 0x3C }
+    requires utf8 { IsUtf8 line.now }
+    // What was answered is what stands there.
+    ensures so { IsSo (Says line.now at) result }
+    // What stands there was answered, unless memory ran out.
+    ensures only { (answer : Result (Term × ℕ) LexFault) → Says line.now at answer → Gives result answer }
+    ensures boundary { IfOk result (λ r. IsCharBoundary line.now r.1) }
+{
+    iri_answer(alloc, line, at)
 }
 
 /// Reads the IRI whose `<` stands at `at`, and gives the place after its `>`. The line is UTF-8.
@@ -93,5 +129,5 @@ pub fn read_iri(alloc: Global, line: &[u8], at: usize) -> Result<(Term, usize), 
     ensures only { (answer : Result (Term × ℕ) LexFault) → Says line.now at answer → Gives result answer }
     ensures boundary { IfOk result (λ r. IsCharBoundary line.now r.1) }
 {
-    iri_answer(alloc, line, at)
+    owned(alloc, iri_answer(alloc, line, at))
 }

@@ -1,8 +1,10 @@
 //! Literals.
 
 ghost use Rattle.std.specs.Prelude.{◌≡◌, ◌<◌, ◌≤◌, ◌↔◌, length, slice_index, IsUtf8, IsTrue, IfOk, ℕ, Result};
+ghost use Rattle.std.specs.Cow.{cow_slice_items};
 ghost use Rattle.std.specs.Str.{IsCharBoundary};
 ghost use Rattle.gk_base.specs.declared.term.Term.{Term};
+ghost use Rattle.gk_base.specs.declared.term.Term.TheVariants.{Plain};
 ghost use Rattle.gk_base.specs.declared.lex_fault.LexFault.{LexFault};
 ghost use Rattle.nt_lex.specs.Answers.{IsSo, Gives};
 ghost use Rattle.nt_lex.specs.Spelling.{xsd_string, HasDatatype};
@@ -11,11 +13,14 @@ ghost use Rattle.nt_lex.specs.Reading.{Says};
 
 use crate::body::string_body;
 use crate::iri::iri_text;
+use crate::lexed::{LexedTerm, owned};
 use crate::scan::byte_at;
 use crate::space::skip_space;
 use crate::tag::{lowered, tag_end};
-use gk_base::{LexFault, LexStop, Term, Text};
+use gk_base::{LexFault, LexStop, Term};
 use std::alloc::Global;
+use std::borrow::CowSlice;
+use term_list::TermKind;
 
 const XSD_STRING: &[u8; 39] = b"http://www.w3.org/2001/XMLSchema#string";
 
@@ -25,26 +30,32 @@ fn is_xsd_string(iri: &[u8]) -> bool
     iri == XSD_STRING.as_slice()
 }
 
-fn with_datatype(form: Text, datatype: Text) -> Term
-    ensures { HasDatatype form datatype result }
+fn plain<'a>(form: CowSlice<'a, u8>) -> LexedTerm<'a>
+    ensures { result ≡ Plain (cow_slice_items form.entry) }
 {
-    if is_xsd_string(datatype.bytes()) {
-        Term::Plain(form)
+    LexedTerm::new(TermKind::Plain, form, CowSlice::Borrowed(&[]))
+}
+
+fn with_datatype<'a>(form: CowSlice<'a, u8>, datatype: CowSlice<'a, u8>) -> LexedTerm<'a>
+    ensures { HasDatatype (cow_slice_items form.entry) (cow_slice_items datatype.entry) result }
+{
+    if is_xsd_string(datatype.as_slice()) {
+        plain(form)
     } else {
-        Term::Typed(form, datatype)
+        LexedTerm::new(TermKind::Typed, form, datatype)
     }
 }
 
 /// Reads what stands after a string that closed before `close`.
-fn read_suffix(
+fn read_suffix<'a>(
     alloc: Global,
-    line: &[u8],
-    form: Text,
+    line: &'a [u8],
+    form: CowSlice<'a, u8>,
     close: usize,
-) -> Result<(Term, usize), LexStop>
+) -> Result<(LexedTerm<'a>, usize), LexStop>
     requires inside { close ≤ length line.now }
     requires utf8 { IsUtf8 line.now }
-    ensures { IsSo (SuffixSays line.now form close) result }
+    ensures { IsSo (SuffixSays line.now (cow_slice_items form.entry) close) result }
 {
     let next = skip_space(line, close);
     if byte_at(line, next) == b'^' && byte_at(line, next + 1) == b'^' {
@@ -53,7 +64,7 @@ fn read_suffix(
             return Err(LexStop::Fault(LexFault::BadIri));
         }
         return match iri_text(alloc, line, begin) {
-            Ok((iri, end)) => Ok((with_datatype(form, Text::from_vec(iri)), end)),
+            Ok((iri, end)) => Ok((with_datatype(form, iri), end)),
             Err(stop) => Err(stop),
         };
     }
@@ -61,20 +72,20 @@ fn read_suffix(
         return match tag_end(line, next + 1) {
             Some(end) => {
                 let tag = lowered(alloc, &line[next + 1..end])?;
-                Ok((Term::Lang(form, Text::from_vec(tag)), end))
+                Ok((LexedTerm::new(TermKind::Lang, form, tag), end))
             }
             None => Err(LexStop::Fault(LexFault::BadLanguageTag)),
         };
     }
-    Ok((Term::Plain(form), close))
+    Ok((plain(form), close))
 }
 
 #[tactic(auto, using(crate::proofs::AnswerLemmas::utf_after_byte))]
-pub(crate) fn literal_answer(
+pub(crate) fn literal_answer<'a>(
     alloc: Global,
-    line: &[u8],
+    line: &'a [u8],
     at: usize,
-) -> Result<(Term, usize), LexStop>
+) -> Result<(LexedTerm<'a>, usize), LexStop>
     requires inside { at < length line.now }
     requires opens { slice_index line.now at ≡ 0x22 }
     requires utf8 { IsUtf8 line.now }
@@ -83,7 +94,7 @@ pub(crate) fn literal_answer(
     let (text, end) = string_body(alloc, line, at + 1)?;
     let byte = byte_at(line, end);
     if byte == b'"' {
-        return read_suffix(alloc, line, Text::from_vec(text), end + 1);
+        return read_suffix(alloc, line, text, end + 1);
     }
     if byte == b'\\' {
         return Err(LexStop::Fault(LexFault::BadEscape));
@@ -105,5 +116,5 @@ pub fn read_literal(alloc: Global, line: &[u8], at: usize) -> Result<(Term, usiz
     ensures only { (answer : Result (Term × ℕ) LexFault) → Says line.now at answer → Gives result answer }
     ensures boundary { IfOk result (λ r. IsCharBoundary line.now r.1) }
 {
-    literal_answer(alloc, line, at)
+    owned(alloc, literal_answer(alloc, line, at))
 }

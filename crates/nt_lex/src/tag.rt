@@ -2,12 +2,14 @@
 
 ghost use Rattle.std.specs.Prelude.{◌≡◌, ◌≤◌, length, IfOk, map};
 ghost use Rattle.std.specs.Char.{to_ascii_lowercase};
+ghost use Rattle.std.specs.Cow.{cow_slice_items};
 ghost use Rattle.nt_lex.specs.Chars.{is_letter, is_letter_or_digit};
 ghost use Rattle.nt_lex.specs.Parts.{TagSays};
 ghost use Rattle.nt_lex.specs.Scans.{IsRunAt};
 
 use crate::scan::byte_at;
 use std::alloc::{AllocError, Global};
+use std::borrow::CowSlice;
 
 fn is_letter(b: u8) -> bool
     ensures { result ≡ is_letter b }
@@ -62,9 +64,13 @@ pub(crate) fn tag_end(line: &[u8], from: usize) -> Option<usize>
     Some(end)
 }
 
-/// The tag in lower case.
-pub(crate) fn lowered(alloc: Global, tag: &[u8]) -> Result<Vec<u8>, AllocError>
-    ensures { IfOk result (λ v. v.items ≡ map to_ascii_lowercase tag.now) }
+/// The tag in lower case. Only one with a capital letter takes memory.
+pub(crate) fn lowered<'a>(alloc: Global, tag: &'a [u8]) -> Result<CowSlice<'a, u8>, AllocError>
+    ensures { IfOk result (λ v. cow_slice_items v ≡ map to_ascii_lowercase tag.now) }
 {
-    tag.iter().map(|b| b.to_ascii_lowercase()).collect(alloc)
+    if tag.iter().all(|b| !b.is_ascii_uppercase()) {
+        return Ok(CowSlice::Borrowed(tag));
+    }
+    let lower = tag.iter().map(|b| b.to_ascii_lowercase()).collect(alloc)?;
+    Ok(CowSlice::Owned(lower))
 }

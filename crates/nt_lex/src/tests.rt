@@ -1,6 +1,10 @@
-use crate::{read_blank, read_iri, read_literal, read_object, skip_space};
+use crate::{
+    LexedTerm, lex_blank, lex_iri, lex_object, read_blank, read_iri, read_literal, read_object,
+    skip_space,
+};
 use gk_base::{LexFault, LexStop, Term};
 use std::alloc::Global;
+use term_list::TermRef;
 
 #[derive(Clone, Copy, PartialEq, Eq)]
 enum Kind {
@@ -22,6 +26,19 @@ fn read_first(alloc: Global, line: &str) -> Result<(Term, usize), LexStop> {
         b'_' => read_blank(alloc, bytes, 0),
         b'"' => read_literal(alloc, bytes, 0),
         _ => read_object(alloc, bytes, 0),
+    }
+}
+
+/// The same with the readers that lend.
+fn lex_first(alloc: Global, line: &str) -> Result<(LexedTerm<'_>, usize), LexStop> {
+    let bytes = line.as_bytes();
+    if bytes.is_empty() {
+        return lex_object(alloc, bytes, 0);
+    }
+    match bytes[0] {
+        b'<' => lex_iri(alloc, bytes, 0),
+        b'_' => lex_blank(bytes, 0),
+        _ => lex_object(alloc, bytes, 0),
     }
 }
 
@@ -52,7 +69,27 @@ fn is_read(
     }
 }
 
-/// Whether both readers read this term, and end there.
+/// Whether both readers that lend answer the same.
+fn agrees(alloc: Global, line: &str) -> bool {
+    let answer = read_object(alloc, line.as_bytes(), 0);
+    is_same(&lex_first(alloc, line), &answer)
+        && is_same(&lex_object(alloc, line.as_bytes(), 0), &answer)
+}
+
+fn is_same(
+    lexed: &Result<(LexedTerm<'_>, usize), LexStop>,
+    answer: &Result<(Term, usize), LexStop>,
+) -> bool {
+    match (lexed, answer) {
+        (Ok((term, place)), Ok((expected, end))) => {
+            term.lent().is_same(&TermRef::of(expected)) && *place == *end
+        }
+        (Err(stop), Err(expected)) => *stop == *expected,
+        _ => false,
+    }
+}
+
+/// Whether all readers read this term, and end there.
 fn reads(alloc: Global, line: &str, kind: Kind, first: &[u8], second: &[u8], end: usize) -> bool {
     is_read(read_first(alloc, line), kind, first, second, end)
         && is_read(
@@ -62,6 +99,7 @@ fn reads(alloc: Global, line: &str, kind: Kind, first: &[u8], second: &[u8], end
             second,
             end,
         )
+        && agrees(alloc, line)
 }
 
 fn fault_of(answer: Result<(Term, usize), LexStop>) -> Option<LexFault> {
@@ -71,10 +109,11 @@ fn fault_of(answer: Result<(Term, usize), LexStop>) -> Option<LexFault> {
     }
 }
 
-/// Whether both readers name this fault.
+/// Whether all readers name this fault.
 fn fails(alloc: Global, line: &str, fault: LexFault) -> bool {
     fault_of(read_first(alloc, line)) == Some(fault)
         && fault_of(read_object(alloc, line.as_bytes(), 0)) == Some(fault)
+        && agrees(alloc, line)
 }
 
 #[test]
@@ -106,4 +145,25 @@ fn faults_are_named(rt: HostRuntime) {
     assert!(rt; fails(alloc, "\"x", LexFault::StringNotClosed));
     assert!(rt; fails(alloc, "_:.a", LexFault::BadBlankNodeLabel));
     assert!(rt; fails(alloc, "\"x\"@en- .", LexFault::BadLanguageTag));
+}
+
+/// Whether the texts of the term that is read are parts of the line, and none is one of its own.
+fn lends(alloc: Global, line: &str) -> bool {
+    match lex_object(alloc, line.as_bytes(), 0) {
+        Ok((term, _)) => term.is_part_of_the_line(),
+        Err(_) => false,
+    }
+}
+
+#[test]
+fn texts_that_stand_in_the_line_are_lent(rt: HostRuntime) {
+    let alloc = rt.alloc();
+    assert!(rt; lends(alloc, "<urn:a>"));
+    assert!(rt; lends(alloc, "_:a.b."));
+    assert!(rt; lends(alloc, "\"x\""));
+    assert!(rt; lends(alloc, "\"x\"@en-us ."));
+    assert!(rt; lends(alloc, "\"1\"^^<urn:t>"));
+    assert!(rt; !lends(alloc, "<urn:a\\u0020b>"));
+    assert!(rt; !lends(alloc, "\"\\t\""));
+    assert!(rt; !lends(alloc, "\"x\"@EN"));
 }

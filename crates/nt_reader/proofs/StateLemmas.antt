@@ -41,7 +41,7 @@ refused_after most taken triples room line fault sum r = record {
 -- from the cut of the bytes to the state after them
 after : (limits : Limits) (new : State) (taken : List Triple) (bytes : List ℕ) (cut : Cut) → cut_of bytes ≡ cut → new.bytes ≡ length bytes → length bytes ≤ limits.bytes
     → new.kept.items ≡ cut.rest → new.line ≡ length cut.ended + 1 → new.after_return ≡ cut.returned
-    → AreGood cut.ended (taken ++ new.triples.items) → length taken + new.room ≡ limits.triples → length new.triples.items ≤ new.room
+    → AreGood cut.ended (taken ++ new.triples) → length taken + new.room ≡ limits.triples → length new.triples ≤ new.room
     → Stands limits new taken bytes
 after limits new taken bytes cut is count within rest line returned good room few = record {
   count = count;
@@ -49,19 +49,19 @@ after limits new taken bytes cut is count within rest line returned good room fe
   rest = rest ∙ ap (λ (c : Cut). c.rest) (sym is);
   line = line ∙ ap (λ (c : Cut). length c.ended + 1) (sym is);
   returned = returned ∙ ap (λ (c : Cut). c.returned) (sym is);
-  good = subst (λ (c : Cut). AreGood c.ended (taken ++ new.triples.items)) (sym is) good;
+  good = subst (λ (c : Cut). AreGood c.ended (taken ++ new.triples)) (sym is) good;
   room = room;
   few = few;
 }
 
 -- all triples so far are within the limit
-pub all_few : (limits : Limits) (state : State) (taken : List Triple) (seen : List ℕ) → Stands limits state taken seen → length (taken ++ state.triples.items) ≤ limits.triples
-all_few limits state taken seen s = omega (arith, length-append taken state.triples.items, s.room, s.few)
+pub all_few : (limits : Limits) (state : State) (taken : List Triple) (seen : List ℕ) → Stands limits state taken seen → length (taken ++ state.triples) ≤ limits.triples
+all_few limits state taken seen s = omega (arith, length-append taken state.triples, s.room, s.few)
 
 module _ (limits : Limits) (old : State) (taken : List Triple) (seen : List ℕ) (s : Stands limits old taken seen) where
   -- the line feed of a CR LF
   pub stands_swallow : (new : State) → old.after_return ≡ true → old.bytes + 1 ≤ limits.bytes → new.bytes ≡ old.bytes + 1 → new.kept.items ≡ old.kept.items
-      → new.line ≡ old.line → new.after_return ≡ false → new.triples.items ≡ old.triples.items → new.room ≡ old.room → Stands limits new taken (seen ++ 0x0A ∷ [])
+      → new.line ≡ old.line → new.after_return ≡ false → new.triples ≡ old.triples → new.room ≡ old.room → Stands limits new taken (seen ++ 0x0A ∷ [])
   stands_swallow new r room count kept line returned triples left =
       after limits new taken (seen ++ 0x0A ∷ []) _ (cut_append seen (0x0A ∷ []) ∙ swallowed (cut_of seen) (sym s.returned ∙ r))
       (omega (arith, count, s.count, length-append seen (0x0A ∷ []))) (omega (arith, room, s.count, length-append seen (0x0A ∷ [])))
@@ -71,7 +71,7 @@ module _ (limits : Limits) (old : State) (taken : List Triple) (seen : List ℕ)
   -- a part of a line
   pub stands_part : (new : State) (seg : List ℕ) → AllPass is_line_byte seg → 0 < length seg → old.bytes + length seg ≤ limits.bytes
       → new.bytes ≡ old.bytes + length seg → new.kept.items ≡ old.kept.items ++ seg → new.line ≡ old.line → new.after_return ≡ false
-      → new.triples.items ≡ old.triples.items → new.room ≡ old.room → Stands limits new taken (seen ++ seg)
+      → new.triples ≡ old.triples → new.room ≡ old.room → Stands limits new taken (seen ++ seg)
   stands_part new seg p some room count kept line returned triples left =
       after limits new taken (seen ++ seg) _ (cut_append seen seg ∙ some_plain (cut_of seen) seg p some)
       (omega (arith, count, s.count, length-append seen seg)) (omega (arith, room, s.count, length-append seen seg))
@@ -86,28 +86,28 @@ module _ (limits : Limits) (old : State) (taken : List Triple) (seen : List ℕ)
     long : length (seen ++ (seg ++ b ∷ [])) ≡ old.bytes + length seg + 1
     long = omega (arith, s.count, length-append seen (seg ++ b ∷ []), length-append seg (b ∷ []))
 
-    pub stands_line : (new : State) → Adds old.room old.triples.items new.triples.items (old.kept.items ++ seg)
+    pub stands_line : (new : State) → Adds old.room old.triples new.triples (old.kept.items ++ seg)
         → new.bytes ≡ old.bytes + length seg + 1 → new.kept.items ≡ [] → new.line ≡ old.line + 1 → new.after_return ≡ eqb b 0x0D → new.room ≡ old.room
         → Stands limits new taken (seen ++ (seg ++ b ∷ []))
     stands_line new adds count kept line returned left =
-        let grown = good_push (cut_of seen).ended (taken ++ old.triples.items) (old.kept.items ++ seg) adds.answer s.good adds.says in
+        let grown = good_push (cut_of seen).ended (taken ++ old.triples) (old.kept.items ++ seg) adds.answer s.good adds.says in
         let content : old.kept.items ++ seg ≡ (cut_of seen).rest ++ seg = ap (λ (l : List ℕ). l ++ seg) s.rest in
-        let more : taken ++ new.triples.items ≡ (taken ++ old.triples.items) ++ filter_map itself (adds.answer ∷ []) =
-        ap (λ (t : List Triple). taken ++ t) adds.grown ∙ sym (append_assoc taken old.triples.items (filter_map itself (adds.answer ∷ []))) in
+        let more : taken ++ new.triples ≡ (taken ++ old.triples) ++ filter_map itself (adds.answer ∷ []) =
+        ap (λ (t : List Triple). taken ++ t) adds.grown ∙ sym (append_assoc taken old.triples (filter_map itself (adds.answer ∷ []))) in
         after limits new taken (seen ++ (seg ++ b ∷ [])) _ ends (count ∙ sym long) (omega (arith, long, room)) kept
         (omega (arith, line, s.line, length-append (cut_of seen).ended (((cut_of seen).rest ++ seg) ∷ [])))
         returned
         (subst (λ (t : List Triple). AreGood ((cut_of seen).ended ++ ((cut_of seen).rest ++ seg) ∷ []) t) (sym more)
-        (subst (λ (l : List ℕ). AreGood ((cut_of seen).ended ++ l ∷ []) ((taken ++ old.triples.items) ++ filter_map itself (adds.answer ∷ []))) content grown))
+        (subst (λ (l : List ℕ). AreGood ((cut_of seen).ended ++ l ∷ []) ((taken ++ old.triples) ++ filter_map itself (adds.answer ∷ []))) content grown))
         (omega (arith, s.room, left)) (omega (arith, adds.few s.few, left))
 
-    pub stops_line : (refusal : ReadRefusal) → IsRefusedWith old.room old.triples.items (old.kept.items ++ seg) old.line refusal
+    pub stops_line : (refusal : ReadRefusal) → IsRefusedWith old.room old.triples (old.kept.items ++ seg) old.line refusal
         → Refuses limits (seen ++ (seg ++ b ∷ [])) refusal
     stops_line refusal r =
-        refused_for_good limits (seen ++ (seg ++ b ∷ [])) (cut_of seen).ended ((cut_of seen).rest ++ seg) (taken ++ old.triples.items) refusal
+        refused_for_good limits (seen ++ (seg ++ b ∷ [])) (cut_of seen).ended ((cut_of seen).rest ++ seg) (taken ++ old.triples) refusal
         (omega (arith, long, room)) (ap (λ (c : Cut). c.ended) ends) s.good (all_few limits old taken seen s) (r.number_is ∙ s.line)
-        (refused_after limits.triples taken old.triples.items old.room ((cut_of seen).rest ++ seg) refusal.fault s.room
-        (subst (λ (l : List ℕ). IsRefused old.room old.triples.items (l ++ seg) refusal.fault) s.rest r.refused))
+        (refused_after limits.triples taken old.triples old.room ((cut_of seen).rest ++ seg) refusal.fault s.room
+        (subst (λ (l : List ℕ). IsRefused old.room old.triples (l ++ seg) refusal.fault) s.rest r.refused))
 
 -- what is refused stays refused
 pub refuses_more : (limits : Limits) (bytes more : List ℕ) (refusal : ReadRefusal) → Refuses limits bytes refusal → Refuses limits (bytes ++ more) refusal
@@ -144,7 +144,7 @@ too_long limits new taken seen piece front cut line s is inside full number =
     (ap₂ (λ (a b : List ℕ). a ++ b) is (sym (drop_more piece cut 0 inside)) ∙ take-append-drop cut piece)
     in
     subst (λ (l : List ℕ). Refuses limits l (record { line = line; fault = TooLong })) whole
-    (long_for_good limits (seen ++ front) (drop (cut + 1) piece) (get_or piece cut 0) (taken ++ new.triples.items) _ (sym s.count ∙ full) s.good
+    (long_for_good limits (seen ++ front) (drop (cut + 1) piece) (get_or piece cut 0) (taken ++ new.triples) _ (sym s.count ∙ full) s.good
     (all_few limits new taken (seen ++ front) s) number refl)
 
 pub line_at_feed : (limits : Limits) (new : State) (taken : List Triple) (front : List ℕ) (b : ℕ) → Stands limits new taken front → new.after_return ≡ true → b ≡ 0x0A → new.line - 1 ≡ line_of_next front b
@@ -157,9 +157,9 @@ line_elsewhere limits new taken front b s e =
     s.line ∙ sym (cond-false _ _ _ (ap (λ r. r && eqb b 0x0A) (sym s.returned) ∙ e))
 
 -- at the end, what was refused is the answer
-pub finish_stopped : (A : Type 0) (limits : Limits) (taken : List Triple) (bytes : List ℕ) (stop : ReadStop) → IsStopped limits bytes stop → FinishSays {A = A} limits taken bytes (Err stop)
-finish_stopped A limits taken bytes NoMemory s = tt
-finish_stopped A limits taken bytes (Refused r) s = subst (λ (l : List ℕ). FileSays limits l (Err r)) (append-nil bytes) (s.always [])
+pub finish_stopped : (limits : Limits) (taken : List Triple) (bytes : List ℕ) (stop : ReadStop) → IsStopped limits bytes stop → FinishSays limits taken bytes (Err stop)
+finish_stopped limits taken bytes NoMemory s = tt
+finish_stopped limits taken bytes (Refused r) s = subst (λ (l : List ℕ). FileSays limits l (Err r)) (append-nil bytes) (s.always [])
 
 last_some : (rest : List ℕ) → 0 < length rest → last_of rest ≡ rest ∷ []
 last_some [] h = absurd (omega arith)
@@ -167,11 +167,11 @@ last_some (b ∷ bs) h = refl
 
 -- at the end, with nothing kept
 pub finish_clean : (limits : Limits) (state : State) (taken : List Triple) (bytes : List ℕ) → Stands limits state taken bytes → length state.kept.items ≡ 0
-    → FileSays limits bytes (Ok (taken ++ state.triples.items))
+    → FileSays limits bytes (Ok (taken ++ state.triples))
 finish_clean limits state taken bytes s none =
     let empty : (cut_of bytes).rest ≡ [] = nil_from_length _ (ap length (sym s.rest) ∙ none) in (
       s.within,
-      subst (λ (l : List (List ℕ)). AreGood l (taken ++ state.triples.items)) (sym (ap (λ (r : List ℕ). (cut_of bytes).ended ++ last_of r) empty ∙ append-nil (cut_of bytes).ended)) s.good,
+      subst (λ (l : List (List ℕ)). AreGood l (taken ++ state.triples)) (sym (ap (λ (r : List ℕ). (cut_of bytes).ended ++ last_of r) empty ∙ append-nil (cut_of bytes).ended)) s.good,
       all_few limits state taken bytes s,
     )
 
@@ -182,31 +182,31 @@ module _ (limits : Limits) (state : State) (taken : List Triple) (bytes : List �
       ap (λ (l : List (List ℕ)). (cut_of bytes).ended ++ l) (last_some _ some_rest ∙ ap (λ (r : List ℕ). r ∷ []) (sym s.rest))
 
   -- at the end, with a last line that is good
-  pub finish_good : (new : List Triple) → Adds state.room state.triples.items new (state.kept.items ++ []) → FileSays limits bytes (Ok (taken ++ new))
+  pub finish_good : (new : List Triple) → Adds state.room state.triples new (state.kept.items ++ []) → FileSays limits bytes (Ok (taken ++ new))
   finish_good new adds =
-      let more : taken ++ new ≡ (taken ++ state.triples.items) ++ filter_map itself (adds.answer ∷ []) =
-      ap (λ (t : List Triple). taken ++ t) adds.grown ∙ sym (append_assoc taken state.triples.items (filter_map itself (adds.answer ∷ []))) in (
+      let more : taken ++ new ≡ (taken ++ state.triples) ++ filter_map itself (adds.answer ∷ []) =
+      ap (λ (t : List Triple). taken ++ t) adds.grown ∙ sym (append_assoc taken state.triples (filter_map itself (adds.answer ∷ []))) in (
         s.within,
         subst (λ (l : List (List ℕ)). AreGood l (taken ++ new)) (sym all_lines)
             (subst (λ (t : List Triple). AreGood ((cut_of bytes).ended ++ state.kept.items ∷ []) t) (sym more)
-            (good_push (cut_of bytes).ended (taken ++ state.triples.items) state.kept.items adds.answer s.good
+            (good_push (cut_of bytes).ended (taken ++ state.triples) state.kept.items adds.answer s.good
             (subst (λ (l : List ℕ). LineSays l (Ok adds.answer)) (append-nil state.kept.items) adds.says))),
         omega (arith, length-append taken new, s.room, adds.few s.few),
       )
 
   -- at the end, with a last line that is refused
-  pub finish_bad : (A B : Type 0) (new : List Triple) (stop : ReadStop) → Judges {A = B} state.room state.triples.items new (state.kept.items ++ []) state.line (Err stop)
-      → FinishSays {A = A} limits taken bytes (Err stop)
-  finish_bad A B new NoMemory j = tt
-  finish_bad A B new (Refused r) j = inl (record {
+  pub finish_bad : (B : Type 0) (new : List Triple) (stop : ReadStop) → Judges {A = B} state.room state.triples new (state.kept.items ++ []) state.line (Err stop)
+      → FinishSays limits taken bytes (Err stop)
+  finish_bad B new NoMemory j = tt
+  finish_bad B new (Refused r) j = inl (record {
     good = (cut_of bytes).ended;
     bad = state.kept.items;
     more = [];
-    triples = taken ++ state.triples.items;
+    triples = taken ++ state.triples;
     here = cond-true _ _ _ (le-leb _ _ s.within) ∙ all_lines;
     before = s.good;
     few = all_few limits state taken bytes s;
     number = j.number_is ∙ s.line;
-    refused = refused_after limits.triples taken state.triples.items state.room state.kept.items r.fault s.room
-        (subst (λ (l : List ℕ). IsRefused state.room state.triples.items l r.fault) (append-nil state.kept.items) j.refused);
+    refused = refused_after limits.triples taken state.triples state.room state.kept.items r.fault s.room
+        (subst (λ (l : List ℕ). IsRefused state.room state.triples l r.fault) (append-nil state.kept.items) j.refused);
   })

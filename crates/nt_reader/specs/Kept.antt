@@ -1,5 +1,5 @@
 -- What a reader keeps of the pieces, and what it stands for: this project's own words.
-use Rattle.std.specs.Prelude.{◌≡◌, ℕ, ◌+◌, ◌≤◌, cond, List, ◌++◌, length, Result, Ok, Err, Vec}
+use Rattle.std.specs.Prelude.{◌≡◌, ℕ, ◌+◌, ◌≤◌, cond, List, ◌++◌, length, Result, Ok, Err}
 use Rattle.gk_base.specs.declared.term.Triple.{Triple}
 use Rattle.gk_base.specs.declared.limits.Limits.{Limits}
 use Rattle.gk_base.specs.declared.read_fault.ReadStop.{ReadStop}
@@ -16,9 +16,9 @@ pub record Stands (limits : Limits) (state : State) (taken : List Triple) (bytes
   pub rest : state.kept.items ≡ (cut_of bytes).rest
   pub line : state.line ≡ length (cut_of bytes).ended + 1
   pub returned : state.after_return ≡ (cut_of bytes).returned
-  pub good : AreGood (cut_of bytes).ended (taken ++ state.triples.items)
+  pub good : AreGood (cut_of bytes).ended (taken ++ state.triples)
   pub room : length taken + state.room ≡ limits.triples
-  pub few : length state.triples.items ≤ state.room
+  pub few : length state.triples ≤ state.room
 
 -- these bytes were refused, or memory ran out
 abbrev pub IsStopped : Limits → List ℕ → ReadStop → Type 0
@@ -35,7 +35,7 @@ Takes limits old new piece (Ok x) = (taken : List Triple) (seen : List ℕ) → 
 Takes limits old new piece (Err stop) = (taken : List Triple) (seen : List ℕ) → Stands limits old taken seen → IsStopped limits (seen ++ piece) stop
 
 -- the answer at the end, with the triples that were taken, is what the file of these bytes says
-abbrev pub FinishSays : {A : Type 0} → Limits → List Triple → List ℕ → Result (Vec Triple A) ReadStop → Type 0
-FinishSays limits taken bytes (Ok triples) = FileSays limits bytes (Ok (taken ++ triples.items))
+abbrev pub FinishSays : Limits → List Triple → List ℕ → Result (List Triple) ReadStop → Type 0
+FinishSays limits taken bytes (Ok triples) = FileSays limits bytes (Ok (taken ++ triples))
 FinishSays limits taken bytes (Err NoMemory) = Unit {0}
 FinishSays limits taken bytes (Err (Refused refusal)) = FileSays limits bytes (Err refusal)

@@ -2,7 +2,7 @@
 //! a file says the triples of its lines in order, or why it is refused and at which line. However the file is
 //! cut into pieces, the answer is that of the whole file. What a line and a file say is in `specs/`.
 //!
-//! - `line`: one line
+//! - `line`, `lexed_triple`: one line
 //! - `reader`: a file in pieces
 //! - `state`: what is kept between pieces
 //! - `scan`: where a line ends
@@ -10,6 +10,7 @@
 #![tactic(auto)]
 
 mod laws;
+mod lexed_triple;
 mod line;
 mod reader;
 mod scan;

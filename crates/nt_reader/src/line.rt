@@ -6,8 +6,9 @@ ghost use Rattle.gk_base.specs.declared.lex_fault.LexFault.{LexFault};
 ghost use Rattle.nt_lex.specs.Answers.{IsSo, Gives};
 ghost use Rattle.nt_reader.specs.Line.{IsOver, SubjectSays, PredicateSays, EndSays, FromObject, FromPredicate, FromSubject, LineSays};
 
-use gk_base::{LexFault, LexStop, Term, Triple};
-use nt_lex::{read_blank, read_iri, read_object, skip_space};
+use crate::lexed_triple::LexedTriple;
+use gk_base::{LexFault, LexStop, Triple};
+use nt_lex::{LexedTerm, lex_blank, lex_iri, lex_object, skip_space};
 use std::alloc::Global;
 
 /// The byte at `at`, or 0 past the end.
@@ -18,28 +19,36 @@ fn byte_at(line: &[u8], at: usize) -> u8
     if at < line.len() { line[at] } else { 0 }
 }
 
-fn read_subject(alloc: Global, line: &[u8], at: usize) -> Result<(Term, usize), LexStop>
+fn read_subject<'a>(
+    alloc: Global,
+    line: &'a [u8],
+    at: usize,
+) -> Result<(LexedTerm<'a>, usize), LexStop>
     requires { IsUtf8 line.now }
     ensures so { IsSo (SubjectSays line.now at) result }
     ensures within { IfOk result (λ r. r.1 ≤ length line.now) }
 {
     let first = byte_at(line, at);
     if first == b'<' {
-        return read_iri(alloc, line, at);
+        return lex_iri(alloc, line, at);
     }
     if first == b'_' {
-        return read_blank(alloc, line, at);
+        return lex_blank(line, at);
     }
     Err(LexStop::Fault(LexFault::SubjectExpected))
 }
 
-fn read_predicate(alloc: Global, line: &[u8], at: usize) -> Result<(Term, usize), LexStop>
+fn read_predicate<'a>(
+    alloc: Global,
+    line: &'a [u8],
+    at: usize,
+) -> Result<(LexedTerm<'a>, usize), LexStop>
     requires { IsUtf8 line.now }
     ensures so { IsSo (PredicateSays line.now at) result }
     ensures within { IfOk result (λ r. r.1 ≤ length line.now) }
 {
     if byte_at(line, at) == b'<' {
-        return read_iri(alloc, line, at);
+        return lex_iri(alloc, line, at);
     }
     Err(LexStop::Fault(LexFault::PredicateExpected))
 }
@@ -68,20 +77,20 @@ fn end_fault(line: &[u8], at: usize) -> Option<LexFault>
 }
 
 /// Reads on from the object.
-fn read_from_object(
+fn read_from_object<'a>(
     alloc: Global,
-    line: &[u8],
-    subject: Term,
-    predicate: Term,
+    line: &'a [u8],
+    subject: LexedTerm<'a>,
+    predicate: LexedTerm<'a>,
     at: usize,
-) -> Result<Triple, LexStop>
+) -> Result<LexedTriple<'a>, LexStop>
     requires inside { at ≤ length line.now }
     requires utf8 { IsUtf8 line.now }
-    ensures { IsSo (FromObject line.now subject predicate at) result }
+    ensures { IsSo (FromObject line.now subject.entry predicate.entry at) result }
 {
-    match read_object(alloc, line, at) {
+    match lex_object(alloc, line, at) {
         Ok((object, end)) => match end_fault(line, skip_space(line, end)) {
-            None => Ok(Triple {
+            None => Ok(LexedTriple {
                 subject,
                 predicate,
                 object,
@@ -93,14 +102,14 @@ fn read_from_object(
 }
 
 /// Reads on from the predicate.
-fn read_from_predicate(
+fn read_from_predicate<'a>(
     alloc: Global,
-    line: &[u8],
-    subject: Term,
+    line: &'a [u8],
+    subject: LexedTerm<'a>,
     at: usize,
-) -> Result<Triple, LexStop>
+) -> Result<LexedTriple<'a>, LexStop>
     requires { IsUtf8 line.now }
-    ensures { IsSo (FromPredicate line.now subject at) result }
+    ensures { IsSo (FromPredicate line.now subject.entry at) result }
 {
     match read_predicate(alloc, line, at) {
         Ok((predicate, end)) => {
@@ -111,7 +120,11 @@ fn read_from_predicate(
 }
 
 /// Reads on from the subject.
-fn read_from_subject(alloc: Global, line: &[u8], at: usize) -> Result<Triple, LexStop>
+fn read_from_subject<'a>(
+    alloc: Global,
+    line: &'a [u8],
+    at: usize,
+) -> Result<LexedTriple<'a>, LexStop>
     requires { IsUtf8 line.now }
     ensures { IsSo (FromSubject line.now at) result }
 {
@@ -121,7 +134,11 @@ fn read_from_subject(alloc: Global, line: &[u8], at: usize) -> Result<Triple, Le
     }
 }
 
-fn line_answer(alloc: Global, line: &[u8]) -> Result<Option<Triple>, LexStop>
+/// Reads a line as `read_line` does, and lends its terms.
+pub(crate) fn line_answer<'a>(
+    alloc: Global,
+    line: &'a [u8],
+) -> Result<Option<LexedTriple<'a>>, LexStop>
     ensures { IsSo (LineSays line.now) result }
 {
     if !simdutf8::is_utf8(line) {
@@ -147,5 +164,9 @@ pub fn read_line(alloc: Global, line: &[u8]) -> Result<Option<Triple>, LexStop>
     // What the line says was answered, unless memory ran out.
     ensures only { (answer : Result (Option Triple) LexFault) → LineSays line.now answer → Gives result answer }
 {
-    line_answer(alloc, line)
+    match line_answer(alloc, line) {
+        Ok(Some(triple)) => Ok(Some(triple.to_triple(alloc)?)),
+        Ok(None) => Ok(None),
+        Err(stop) => Err(stop),
+    }
 }

@@ -3,9 +3,10 @@
 ghost use Rattle.std.specs.Prelude.{◌≡◌, ℕ, ◌≤◌, ◌+◌, ◌<◌, ◌^◌, ◌↔◌, true, false, List, [], ◌++◌, length, OnOk, IfErr, IsOk, IsTrue, Err};
 
 use crate::state::{State, end_line, feed_state};
-use gk_base::{Limits, ReadStop, Triple};
+use gk_base::{Limits, ReadStop};
 use std::alloc::Global;
 use std::mem;
+use term_list::Triples;
 
 /// Reads a file that comes in pieces. Only a line that no piece holds whole is kept.
 #[derive(Drop)]
@@ -40,7 +41,7 @@ impl Reader {
             alloc,
             limits: *limits,
             state: State {
-                triples: Vec::new(alloc),
+                triples: Triples::new(alloc),
                 room: limits.triples,
                 kept: Vec::new(alloc),
                 bytes: 0,
@@ -79,16 +80,16 @@ impl Reader {
     /// Moves the triples of the lines that have ended into an empty list, in order of their lines and with repeats, less
     /// those that an earlier call has given; none after an `Err`. So a caller need not hold all triples of a file. They
     /// count against the limit all the same. The list's own memory serves for the next triples, and none is taken.
-    pub fn take_triples(&mut self, into: &mut Vec<Triple>)
-        requires { into.old.items ≡ [] }
+    pub fn take_triples(&mut self, into: &mut Triples)
+        requires { into.old ≡ [] }
         ensures limits { self.new.limits ≡ self.old.limits }
         ensures running { self.new.running ≡ self.old.running }
         ensures stop { self.new.stop ≡ self.old.stop }
         // With those that were taken before, they are all triples so far.
         ensures all { self.old.running ≡ true → (taken : List Triple) (seen : List ℕ) → HasRead self.old taken seen →
-            AreGood (cut_of seen).ended (taken ++ into.new.items) }
-        ensures taken { (taken : List Triple) (seen : List ℕ) → HasRead self.old taken seen → HasRead self.new (taken ++ into.new.items) seen }
-        ensures stopped { self.old.running ≡ false → into.new.items ≡ [] }
+            AreGood (cut_of seen).ended (taken ++ into.new) }
+        ensures taken { (taken : List Triple) (seen : List ℕ) → HasRead self.old taken seen → HasRead self.new (taken ++ into.new) seen }
+        ensures stopped { self.old.running ≡ false → into.new ≡ [] }
     {
         if !self.running {
             return;
@@ -100,7 +101,7 @@ impl Reader {
     /// The triples that were not taken yet, or why the file is refused; or the `Err` of an earlier call. With those that
     /// were taken they are the triples of the whole file, in order of their lines and with repeats. A last line without
     /// an end counts where it is not empty.
-    pub fn finish(self) -> Result<Vec<Triple>, ReadStop>
+    pub fn finish(self) -> Result<Triples, ReadStop>
         ensures says { (taken : List Triple) (bytes : List ℕ) → HasRead self taken bytes → FinishSays self.limits taken bytes result }
         ensures again { self.running ≡ false → result ≡ Err self.stop }
     {

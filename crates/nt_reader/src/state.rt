@@ -4,16 +4,18 @@ ghost use Rattle.gk_base.specs.declared.read_fault.ReadRefusal.{ReadRefusal};
 ghost use Rattle.nt_reader.specs.Judged.{Judges};
 ghost use Rattle.nt_reader.specs.Kept.{Takes};
 
-use crate::line::read_line;
+use crate::lexed_triple::LexedTriple;
+use crate::line::line_answer;
 use crate::scan::line_run;
-use gk_base::{LexStop, Limits, ReadFault, ReadRefusal, ReadStop, Triple};
+use gk_base::{LexStop, Limits, ReadFault, ReadRefusal, ReadStop};
 use std::alloc::Global;
+use term_list::Triples;
 
 /// What is kept of the pieces so far.
 #[derive(Drop)]
 pub(crate) struct State {
     /// Of the lines that have ended, less those that were taken.
-    pub(crate) triples: Vec<Triple>,
+    pub(crate) triples: Triples,
     /// How many triples there may be beside those that were taken.
     pub(crate) room: u64,
     /// The front of a line that no piece has held whole.
@@ -34,16 +36,26 @@ fn refused(line: u64, fault: ReadFault) -> ReadStop
 }
 
 /// Adds the triple of this line, where there may be one more.
-fn add(room: u64, triples: &mut Vec<Triple>, number: u64, triple: Triple) -> Result<(), ReadStop>
-    ensures ok { OnOk result (triples.new.items ≡ triples.old.items ++ triple ∷ []) }
-    ensures few { OnOk result (length triples.new.items ≤ room) }
-    ensures full { (refusal : ReadRefusal) → result ≡ Err (ReadStop.Refused refusal) → room ≤ length triples.old.items }
+fn add(
+    room: u64,
+    triples: &mut Triples,
+    number: u64,
+    triple: &LexedTriple<'_>,
+) -> Result<(), ReadStop>
+    ensures ok { OnOk result (triples.new ≡ triples.old ++ triple.now ∷ []) }
+    ensures few { OnOk result (length triples.new ≤ room) }
+    ensures full { (refusal : ReadRefusal) → result ≡ Err (ReadStop.Refused refusal) → room ≤ length triples.old }
     ensures refused { (refusal : ReadRefusal) → result ≡ Err (ReadStop.Refused refusal) → refusal ≡ record { line = number; fault = ReadFault.TooManyTriples } }
 {
-    if triples.as_slice().len() as u64 >= room {
+    if triples.len() as u64 >= room {
         return Err(refused(number, ReadFault::TooManyTriples));
     }
-    match triples.push(triple) {
+    let pushed = triples.push(
+        &triple.subject.lent(),
+        &triple.predicate.lent(),
+        &triple.object.lent(),
+    );
+    match pushed {
         Ok(()) => Ok(()),
         Err(_) => Err(ReadStop::NoMemory),
     }
@@ -53,15 +65,15 @@ fn add(room: u64, triples: &mut Vec<Triple>, number: u64, triple: Triple) -> Res
 fn judge(
     alloc: Global,
     room: u64,
-    triples: &mut Vec<Triple>,
+    triples: &mut Triples,
     number: u64,
     content: &[u8],
 ) -> Result<(), ReadStop>
-    ensures { Judges room triples.old.items triples.new.items content.now number result }
+    ensures { Judges room triples.old triples.new content.now number result }
 {
-    match read_line(alloc, content) {
+    match line_answer(alloc, content) {
         Ok(None) => Ok(()),
-        Ok(Some(triple)) => add(room, triples, number, triple),
+        Ok(Some(triple)) => add(room, triples, number, &triple),
         Err(LexStop::NoMemory) => Err(ReadStop::NoMemory),
         Err(LexStop::Fault(fault)) => Err(refused(number, ReadFault::Lex(fault))),
     }
@@ -74,7 +86,7 @@ pub(crate) fn end_line(alloc: Global, state: &mut State, part: &[u8]) -> Result<
     ensures returned { state.new.after_return ≡ state.old.after_return }
     ensures room { state.new.room ≡ state.old.room }
     ensures kept { OnOk result (state.new.kept.items ≡ []) }
-    ensures judged { Judges state.old.room state.old.triples.items state.new.triples.items (state.old.kept.items ++ part.now) state.old.line result }
+    ensures judged { Judges state.old.room state.old.triples state.new.triples (state.old.kept.items ++ part.now) state.old.line result }
 {
     if state.kept.is_empty() {
         return judge(alloc, state.room, &mut state.triples, state.line, part);

@@ -3,6 +3,7 @@ ghost use Rattle.std.specs.Prelude.{◌+◌, ◌<◌, ◌^◌};
 use crate::{Reader, read_line};
 use gk_base::{LexFault, LexStop, Limits, ReadFault, ReadRefusal, ReadStop, Term, Triple};
 use std::alloc::{AllocError, Global};
+use term_list::Triples;
 
 mod characters;
 mod files;
@@ -114,7 +115,7 @@ fn in_pieces(
     let _ = reader.feed(first);
     let _ = reader.feed(second);
     let _ = reader.feed(third);
-    reader.finish()
+    Ok(reader.finish()?.to_vec(alloc)?)
 }
 
 fn byte_by_byte(alloc: Global, limits: &Limits, text: &[u8]) -> Result<Vec<Triple>, ReadStop>
@@ -125,7 +126,7 @@ fn byte_by_byte(alloc: Global, limits: &Limits, text: &[u8]) -> Result<Vec<Tripl
         let piece = [*b];
         let _ = reader.feed(&piece);
     }
-    reader.finish()
+    Ok(reader.finish()?.to_vec(alloc)?)
 }
 
 /// The same, with the triples of each line taken as soon as it has ended.
@@ -137,11 +138,11 @@ fn taken_as_they_come(alloc: Global, limits: &Limits, text: &[u8]) -> Result<Vec
     'bytes: for b in text {
         let piece = [*b];
         let _ = reader.feed(&piece);
-        let mut taken = Vec::new(alloc);
+        let mut taken = Triples::new(alloc);
         reader.take_triples(&mut taken);
-        triples.append(&mut taken)?;
+        triples.append(&mut taken.to_vec(alloc)?)?;
     }
-    triples.append(&mut reader.finish()?)?;
+    triples.append(&mut reader.finish()?.to_vec(alloc)?)?;
     Ok(triples)
 }
 

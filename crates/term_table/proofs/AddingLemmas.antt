@@ -5,7 +5,8 @@ use Rattle.term_table.specs.declared.slot.Slot.{Slot}
 use Rattle.term_table.specs.declared.index.Index.{Index}
 use Rattle.term_table.specs.Index.{hash_of, slot_of, IsReached, Holds, IsIndexOf, HasAlso, HasSame, AreIndexed}
 use Rattle.term_table.specs.Numbering.{is_named, AreDistinct}
-use Rattle.term_table.proofs.NumberingLemmas.{slice_get-append_left, slice_get-push, slice_get-of_push, with_term-new, AreDistinct-with_term}
+use Rattle.term_list.proofs.PackedLemmas.{slice_get-of_push}
+use Rattle.term_table.proofs.NumberingLemmas.{slice_get-append_left, slice_get-push, with_term-new, AreDistinct-with_term}
 
 -- one with the same slots is an index of the same terms
 pub IsIndexOf-same : (old new : Index) (terms : List Term) → HasSame old new → IsIndexOf old terms → IsIndexOf new terms

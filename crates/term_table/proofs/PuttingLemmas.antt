@@ -5,7 +5,8 @@ use Rattle.std.proofs.lemmas.Option.{slice_get_within}
 use Rattle.term_table.specs.declared.slot.Slot.{Slot}
 use Rattle.term_table.specs.declared.index.Index.{Index}
 use Rattle.term_table.specs.Index.{home_of, IsTaken, IsReached, Holds, HasAlso, HasSame}
-use Rattle.term_table.proofs.NumberingLemmas.{slice_get-append_left, slice_get-push, slice_get-of_push}
+use Rattle.term_list.proofs.PackedLemmas.{slice_get-of_push}
+use Rattle.term_table.proofs.NumberingLemmas.{slice_get-append_left, slice_get-push}
 use Rattle.term_table.proofs.SearchLemmas.{AreTaken, IsReached-after}
 
 module _ {X : Type 0} where

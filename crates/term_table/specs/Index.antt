@@ -1,16 +1,17 @@
 -- The index of a list of terms: from the hash of a term to its place. It is a hash table with open addressing and linear
 -- probing, but that probing goes on past the last home, and does not begin anew (this project's own).
-use Rattle.std.specs.Prelude.{◌≡◌, ◌≢◌, ℕ, ◌-◌, ◌*◌, ◌/◌, ◌^◌, ◌<◌, ◌≤◌, ◌⊎◌, List, fold, length, slice_get, Some}
+use Rattle.std.specs.Prelude.{◌≡◌, ◌≢◌, ℕ, ◌-◌, ◌*◌, ◌/◌, ◌^◌, ◌<◌, ◌≤◌, ◌⊎◌, List, [], ◌∷◌, fold, length, slice_get, Some}
 use Rattle.std.specs.Hash.FoldHasher as folding
 use Rattle.gk_base.specs.declared.term.Term.{Term}
-use Rattle.gk_base.specs.contracts.term.TermHash.TheImpl.{hash_input-value}
+use Rattle.term_list.specs.Parts.{first_text, second_text}
 use Rattle.term_table.specs.Numbering.{AreDistinct}
 use Rattle.term_table.specs.declared.slot.Slot.{Slot}
 use Rattle.term_table.specs.declared.index.Index.{Index}
 
--- the hash of a term: the upper half of what std's fast hasher makes of it
+-- the hash of a term: the upper half of what std's fast hasher makes of its texts; terms of different kinds with the same
+-- texts share a hash
 unfoldable pub hash_of : Term → ℕ
-hash_of term = folding.finish (fold folding.write folding.initial ((hash_input-value).it term)) / 2 ^ 32
+hash_of term = folding.finish (fold folding.write folding.initial (first_text term ∷ second_text term ∷ [])) / 2 ^ 32
 
 -- the slot where the search for a hash begins
 abbrev pub home_of : ℕ → ℕ → ℕ

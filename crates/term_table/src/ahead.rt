@@ -8,8 +8,9 @@ ghost use Rattle.std.specs.Prelude.{◌≡◌, length, IfOk};
 
 use crate::index::Index;
 use crate::slot::{NO_PLACE, Slot};
-use gk_base::{NoMemory, Term};
+use gk_base::NoMemory;
 use std::alloc::Global;
+use term_list::Terms;
 
 // The slots at the homes of these hashes.
 fn slots_at_home(alloc: Global, index: &Index, hashes: &[u32]) -> Result<Vec<Slot>, NoMemory>
@@ -45,20 +46,12 @@ fn first_places(
     Ok(places)
 }
 
-// The bytes of a term's name, label or lexical form.
-fn first_bytes(term: &Term) -> &[u8] {
-    match term {
-        Term::Iri(text) | Term::Blank(text) | Term::Plain(text) => text.bytes(),
-        Term::Typed(form, _) | Term::Lang(form, _) => form.bytes(),
-    }
-}
-
-// Those of these places where a name stands that is like the term.
-fn where_like<F: Fn(&Term, &Term) -> bool>(
+// Those of these places where a name stands whose first text is like the term's.
+fn where_like<F: Fn(&[u8], &[u8]) -> bool>(
     alloc: Global,
-    names: &[Term],
+    names: &Terms,
     places: &[u32],
-    terms: &[Term],
+    terms: &Terms,
     is_like: F,
 ) -> Result<Vec<u32>, NoMemory>
     requires each { length places.now ≡ length terms.now }
@@ -66,34 +59,34 @@ fn where_like<F: Fn(&Term, &Term) -> bool>(
     ensures { IfOk result (λ kept. length kept.items ≡ length terms.now) }
 {
     let mut kept = Vec::with_capacity(alloc, places.len())?;
-    for (at, term) in terms.iter().enumerate() {
+    for at in 0..terms.len() {
         let place = places[at];
-        let likely = match names.get(place as usize) {
-            Some(name) => is_like(name, term),
-            None => false,
-        };
+        let likely = (place as usize) < names.len()
+            && is_like(names.get(place as usize).first(), terms.get(at).first());
         kept.push(if likely { place } else { NO_PLACE })?;
     }
     Ok(kept)
 }
 
-// Whether two terms are as long.
-fn are_as_long(name: &Term, term: &Term) -> bool {
-    first_bytes(name).len() == first_bytes(term).len()
+// Whether two texts are as long.
+#[inline]
+fn are_as_long(name: &[u8], term: &[u8]) -> bool {
+    name.len() == term.len()
 }
 
-// Whether two terms end with the same byte.
-fn end_alike(name: &Term, term: &Term) -> bool {
-    first_bytes(name).last() == first_bytes(term).last()
+// Whether two texts end with the same byte.
+#[inline]
+fn end_alike(name: &[u8], term: &[u8]) -> bool {
+    name.last() == term.last()
 }
 
 /// For each of these terms, whose hashes are given, the place where it may stand in the list of names that is indexed.
 pub(crate) fn likely_places(
     alloc: Global,
     index: &Index,
-    names: &[Term],
+    names: &Terms,
     hashes: &[u32],
-    terms: &[Term],
+    terms: &Terms,
 ) -> Result<Vec<u32>, NoMemory>
     requires { length hashes.now ≡ length terms.now }
     ensures { IfOk result (λ places. length places.items ≡ length terms.now) }

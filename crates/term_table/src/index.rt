@@ -4,8 +4,9 @@ ghost use Rattle.std.specs.Prelude.{◌≡◌, ◌≢◌, ℕ, ◌+◌, ◌-◌,
 ghost use Rattle.gk_base.specs.declared.term.Term.{Term as AnyTerm};
 
 use crate::slot::{FREE, NO_PLACE, Slot};
-use gk_base::{NoMemory, Term};
+use gk_base::NoMemory;
 use std::alloc::Global;
+use term_list::{TermRef, Terms};
 
 /// The fewest homes of an index that has any.
 const FEWEST_HOMES: u32 = 16;
@@ -37,6 +38,7 @@ impl Index {
     }
 
     // The slot where the search for a hash begins.
+    #[inline]
     fn home(&self, hash: u32) -> usize
         ensures value { result ≡ home_of self.now.homes hash }
         ensures within { result ≤ length self.now.slots.items }
@@ -45,7 +47,7 @@ impl Index {
     }
 
     /// The place of this term, whose hash is given.
-    pub(crate) fn find(&self, terms: &[Term], hash: u32, term: &Term) -> Option<u32>
+    pub(crate) fn find(&self, terms: &Terms, hash: u32, term: &TermRef<'_>) -> Option<u32>
         requires index { IsIndexOf self.now terms.now }
         requires hash { hash ≡ hash_of term.now }
         ensures found { IfSome result (λ place. slice_get terms.now place ≡ Some term.now) }
@@ -57,7 +59,7 @@ impl Index {
             if slot.place == NO_PLACE {
                 return None;
             }
-            if slot.hash == hash && terms[slot.place as usize] == *term {
+            if slot.hash == hash && terms.get(slot.place as usize).is_same(term) {
                 return Some(slot.place);
             }
             at += 1;
@@ -66,6 +68,7 @@ impl Index {
     }
 
     /// The slot at the home of this hash.
+    #[inline]
     pub(crate) fn at_home(&self, hash: u32) -> Slot {
         match self.slots.get(self.home(hash)) {
             Some(slot) => *slot,

@@ -12,12 +12,15 @@ use crate::index::Index;
 use gk_base::{NoMemory, Term};
 use std::alloc::Global;
 use std::marker::Model;
+use term_list::{TermRef, Terms};
 
-/// The names of a graph: its distinct terms, each stored once. A name's number is its place, counted from 0 in the
-/// order in which the terms came, and never changes. Contracts see the list of the terms.
+/// The names of a graph: its distinct terms, each stored once, packed as `Terms` are, with texts of 2^32 - 1 bytes in all
+/// at most. A name's number is its place, counted from 0 in the order in which the terms came, and never changes.
+/// Contracts see the list of the terms.
 #[derive(Drop)]
 pub struct Names {
-    terms: Vec<Term>,
+    alloc: Global,
+    terms: Terms,
     index: Index,
 }
 
@@ -28,9 +31,9 @@ impl Model for Names {
 
     ghost Value = { List Term };
 
-    ghost view = { λ n. n.terms.items };
+    ghost view = { λ n. n.terms };
 
-    ghost invariant = { λ n. AreIndexed n.index n.terms.items };
+    ghost invariant = { λ n. AreIndexed n.index n.terms };
 }
 
 impl Names {
@@ -39,7 +42,8 @@ impl Names {
         ensures { result ≡ [] }
     {
         Names {
-            terms: Vec::new(alloc),
+            alloc,
+            terms: Terms::new(alloc),
             index: Index::new(alloc),
         }
     }
@@ -53,8 +57,8 @@ impl Names {
         self.terms.len() as u32
     }
 
-    /// The number of this term. A term that is not yet a name becomes the last one. After `NoMemory` the names are as
-    /// they were.
+    /// The number of this term. A term that is not yet a name becomes the last one. After `NoMemory`, which comes also
+    /// where the texts would be longer than the names can hold, the names are as they were.
     pub fn intern(&mut self, term: Term) -> Result<u32, NoMemory>
         requires { length self.old < 2 ^ 32 - 1 }
         ensures place { IfOk result (λ place. slice_get self.new place ≡ Some term) }
@@ -63,65 +67,67 @@ impl Names {
         ensures err { OnErr result (self.new ≡ self.old) }
         ensures distinct { AreDistinct self.new }
     {
-        let hash = hash_of(&term);
-        self.intern_hashed(hash, term)
+        let lent = TermRef::of(&term);
+        self.intern_hashed(hash_of(&lent), &lent)
     }
 
     // The number of this term, whose hash is given.
-    fn intern_hashed(&mut self, hash: u32, term: Term) -> Result<u32, NoMemory>
+    fn intern_hashed(&mut self, hash: u32, term: &TermRef<'_>) -> Result<u32, NoMemory>
         requires few { length self.old < 2 ^ 32 - 1 }
-        requires hash { hash ≡ hash_of term }
-        ensures place { IfOk result (λ place. slice_get self.new place ≡ Some term) }
-        ensures ok { OnOk result (self.new ≡ with_term self.old term) }
+        requires hash { hash ≡ hash_of term.now }
+        ensures place { IfOk result (λ place. slice_get self.new place ≡ Some term.now) }
+        ensures ok { OnOk result (self.new ≡ with_term self.old term.now) }
         ensures err { OnErr result (self.new ≡ self.old) }
         ensures distinct { AreDistinct self.new }
     {
-        if let Some(place) = self.index.find(&self.terms, hash, &term) {
+        if let Some(place) = self.index.find(&self.terms, hash, term) {
             return Ok(place);
         }
         let place = self.terms.len() as u32;
-        self.terms.reserve(1)?;
-        self.index.add(hash, place)?;
-        self.terms.push_reserved(term);
-        Ok(place)
+        self.terms.push(term)?;
+        match self.index.add(hash, place) {
+            Ok(()) => Ok(place),
+            Err(error) => {
+                self.terms.truncate(place as usize);
+                Err(error)
+            }
+        }
     }
 
     // The number of this term, whose hash is given. It is looked for at one place first.
-    fn intern_likely(&mut self, likely: u32, hash: u32, term: Term) -> Result<u32, NoMemory>
+    #[inline]
+    fn intern_likely(&mut self, likely: u32, hash: u32, term: &TermRef<'_>) -> Result<u32, NoMemory>
         requires few { length self.old < 2 ^ 32 - 1 }
-        requires hash { hash ≡ hash_of term }
-        ensures place { IfOk result (λ place. slice_get self.new place ≡ Some term) }
-        ensures ok { OnOk result (self.new ≡ with_term self.old term) }
+        requires hash { hash ≡ hash_of term.now }
+        ensures place { IfOk result (λ place. slice_get self.new place ≡ Some term.now) }
+        ensures ok { OnOk result (self.new ≡ with_term self.old term.now) }
         ensures err { OnErr result (self.new ≡ self.old) }
         ensures distinct { AreDistinct self.new }
     {
-        if let Some(name) = self.terms.get(likely as usize) {
-            if *name == term {
-                return Ok(likely);
-            }
+        let at = likely as usize;
+        if at < self.terms.len() && self.terms.get(at).is_same(term) {
+            return Ok(likely);
         }
         self.intern_hashed(hash, term)
     }
 
     /// The numbers of these terms, in their order. Those that are no names yet become names one after another, as by
-    /// `intern`. It is faster than one call for each, since the memory of many look-ups is fetched at once. After
-    /// `NoMemory` the first of the terms may have become names; no name is lost.
-    pub fn intern_all(&mut self, mut terms: Vec<Term>) -> Result<Vec<u32>, NoMemory>
-        requires { length self.old + length terms.items < 2 ^ 32 }
-        ensures numbers { IfOk result (λ numbers. numbers.items ≡ map (place_of self.new) terms.items) }
-        ensures ok { OnOk result (self.new ≡ with_terms self.old terms.items) }
+    /// `intern`; those that are names already take no memory. It is faster than one call for each, since the memory of
+    /// many look-ups is fetched at once. After `NoMemory` the first of the terms may have become names; no name is lost.
+    pub fn intern_all(&mut self, terms: &Terms) -> Result<Vec<u32>, NoMemory>
+        requires { length self.old + length terms.now < 2 ^ 32 }
+        ensures numbers { IfOk result (λ numbers. numbers.items ≡ map (place_of self.new) terms.now) }
+        ensures ok { OnOk result (self.new ≡ with_terms self.old terms.now) }
         // Else the first of the terms have become names, and no name is lost.
-        ensures err { OnErr result (HasTakenSome self.old terms.items self.new) }
+        ensures err { OnErr result (HasTakenSome self.old terms.now self.new) }
         ensures distinct { AreDistinct self.new }
     {
-        let alloc = *self.terms.allocator();
-        let hashes = hashes_of(alloc, &terms)?;
-        let likely = likely_places(alloc, &self.index, &self.terms, &hashes, &terms)?;
+        let alloc = self.alloc;
+        let hashes = hashes_of(alloc, terms)?;
+        let likely = likely_places(alloc, &self.index, &self.terms, &hashes, terms)?;
         let mut numbers = Vec::with_capacity(alloc, terms.len())?;
-        terms.reverse();
-        while let Some(term) = terms.pop() {
-            let at = numbers.len();
-            let number = self.intern_likely(likely[at], hashes[at], term)?;
+        for at in 0..terms.len() {
+            let number = self.intern_likely(likely[at], hashes[at], &terms.get(at))?;
             numbers.push(number)?;
         }
         Ok(numbers)
@@ -134,15 +140,17 @@ impl Names {
         ensures present { IsSome result ↔ Contains self.now term.now }
         ensures absent { IsNone result ↔ (Contains self.now term.now → ⊥) }
     {
-        self.index.find(&self.terms, hash_of(term), term)
+        let lent = TermRef::of(term);
+        self.index.find(&self.terms, hash_of(&lent), &lent)
     }
 
     /// The term with this number.
-    pub fn term(&self, place: u32) -> &Term
+    #[inline]
+    pub fn term(&self, place: u32) -> TermRef<'_>
         requires { place < length self.now }
-        ensures { slice_get self.now place ≡ Some result.now }
+        ensures { slice_get self.now place ≡ Some result }
     {
-        &self.terms[place as usize]
+        self.terms.get(place as usize)
     }
 
     /// For each name a number. A literal's is the least number of a literal of the same kind, with the same datatype or
@@ -162,6 +170,6 @@ impl Names {
         ensures others { IfOk result (λ numbers. (n : ℕ) → n < length self.now →
             ¬ (IsLiteralAt self.now n) → slice_index numbers.items n ≡ n) }
     {
-        folds(*self.terms.allocator(), &self.terms)
+        folds(self.alloc, &self.terms)
     }
 }

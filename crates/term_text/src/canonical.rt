@@ -8,9 +8,22 @@ ghost use Rattle.nt_lex.specs.Reading.{Reads};
 
 use crate::escapes::{Inside, put, put_escaped};
 use gk_base::{NoMemory, Term, Triple};
+use term_list::{TermKind, TermRef};
 
 /// Appends the canonical text of a term. After `NoMemory` the buffer holds what it held before.
 pub fn put_term(buf: &mut Vec<u8>, term: &Term) -> Result<(), NoMemory>
+    ensures ok { OnOk result (buf.new.items ≡ buf.old.items ++ term_text term.now) }
+
+    // Reading what was appended gives the term again, where N-Triples can spell it.
+    ensures read_back { OnOk result (CanBeSpelled term.now
+        → Reads buf.new.items (length buf.old.items) term.now (length buf.new.items)) }
+    ensures err { OnErr result (buf.new.items ≡ buf.old.items) }
+{
+    put_term_ref(buf, &TermRef::of(term))
+}
+
+/// Appends the canonical text of a term that is lent. After `NoMemory` the buffer holds what it held before.
+pub fn put_term_ref(buf: &mut Vec<u8>, term: &TermRef<'_>) -> Result<(), NoMemory>
     ensures ok { OnOk result (buf.new.items ≡ buf.old.items ++ term_text term.now) }
 
     // Reading what was appended gives the term again, where N-Triples can spell it.
@@ -43,30 +56,30 @@ fn append_triple(buf: &mut Vec<u8>, triple: &Triple) -> Result<(), NoMemory>
     ensures ok { OnOk result (buf.new.items ≡ buf.old.items ++ triple_text triple.now) }
     ensures kept { BeginsWith buf.old.items buf.new.items }
 {
-    append_term(buf, &triple.subject)?;
+    append_term(buf, &TermRef::of(&triple.subject))?;
     put(buf, b" ")?;
-    append_term(buf, &triple.predicate)?;
+    append_term(buf, &TermRef::of(&triple.predicate))?;
     put(buf, b" ")?;
-    append_term(buf, &triple.object)?;
+    append_term(buf, &TermRef::of(&triple.object))?;
     put(buf, b" .\n")
 }
 
-fn append_term(buf: &mut Vec<u8>, term: &Term) -> Result<(), NoMemory>
+fn append_term(buf: &mut Vec<u8>, term: &TermRef<'_>) -> Result<(), NoMemory>
     ensures ok { OnOk result (buf.new.items ≡ buf.old.items ++ term_text term.now) }
     ensures kept { BeginsWith buf.old.items buf.new.items }
 {
-    match term {
-        Term::Iri(name) => append_iri(buf, name.bytes()),
-        Term::Blank(label) => append_marked(buf, b"_:", label.bytes()),
-        Term::Plain(form) => append_string(buf, form.bytes()),
-        Term::Typed(form, datatype) => {
-            append_string(buf, form.bytes())?;
+    match term.kind() {
+        TermKind::Iri => append_iri(buf, term.first()),
+        TermKind::Blank => append_marked(buf, b"_:", term.first()),
+        TermKind::Plain => append_string(buf, term.first()),
+        TermKind::Typed => {
+            append_string(buf, term.first())?;
             put(buf, b"^^")?;
-            append_iri(buf, datatype.bytes())
+            append_iri(buf, term.second())
         }
-        Term::Lang(form, tag) => {
-            append_string(buf, form.bytes())?;
-            append_marked(buf, b"@", tag.bytes())
+        TermKind::Lang => {
+            append_string(buf, term.first())?;
+            append_marked(buf, b"@", term.second())
         }
     }
 }

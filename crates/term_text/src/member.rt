@@ -7,9 +7,10 @@ ghost use Rattle.term_text.specs.Labels.{is_shared_in};
 ghost use Rattle.term_text.specs.Members.{members_for, is_before};
 
 use crate::label_counts::LabelCounts;
-use crate::put_term;
-use gk_base::{NoMemory, Term, Text};
+use crate::put_term_ref;
+use gk_base::{NoMemory, Text};
 use std::alloc::Global;
+use term_list::{TermKind, TermRef};
 use term_table::Names;
 
 /// A name that may be printed, with its text.
@@ -54,7 +55,7 @@ pub fn members_of_names(
     for place in 0..names.len() {
         let label = labels[place as usize];
         if counts.is_shared(label) {
-            let text = text_of(alloc, names.term(place))?;
+            let text = text_of(alloc, &names.term(place))?;
             members.push(Member { text, label })?;
         }
     }
@@ -62,22 +63,23 @@ pub fn members_of_names(
 }
 
 /// The canonical text of a term.
-fn text_of(alloc: Global, term: &Term) -> Result<Text, NoMemory>
+fn text_of(alloc: Global, term: &TermRef<'_>) -> Result<Text, NoMemory>
     ensures { IfOk result (λ t. t ≡ term_text term.now) }
 {
     let mut bytes = Vec::with_capacity(alloc, usual_length(term))?;
-    put_term(&mut bytes, term)?;
+    put_term_ref(&mut bytes, term)?;
     Ok(Text::from_vec(bytes))
 }
 
 /// How long a term's text is where nothing is escaped. More is taken where it is longer.
-fn usual_length(term: &Term) -> usize {
-    let (text, rest) = match term {
-        Term::Iri(text) | Term::Blank(text) | Term::Plain(text) => (text, 2),
-        Term::Typed(text, datatype) => (text, datatype.bytes().len().saturating_add(6)),
-        Term::Lang(text, tag) => (text, tag.bytes().len().saturating_add(3)),
+fn usual_length(term: &TermRef<'_>) -> usize {
+    let marks = match term.kind() {
+        TermKind::Iri | TermKind::Blank | TermKind::Plain => 2,
+        TermKind::Typed => 6,
+        TermKind::Lang => 3,
     };
-    text.bytes().len().saturating_add(rest)
+    let texts = term.first().len().saturating_add(term.second().len());
+    texts.saturating_add(marks)
 }
 
 /// Puts members in the order of their texts; members of equal texts stay in their order.

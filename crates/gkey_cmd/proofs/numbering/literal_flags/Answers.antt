@@ -7,4 +7,4 @@ use Rattle.gkey_cmd.proofs.numbering.literal_flags.Goals as goal
 pub loop-place-preserved : goal.loop-place-preserved
 loop-place-preserved c =
     c.in_ok-push.ensures.items ∙ ap (λ fs. fs ++ c.is_literal.result ∷ []) c.loop-place.invariant ∙ ap (λ b. map is_literal (take c.loop-place.place c.args.names.now) ++ b ∷ []) c.is_literal.ensures
-    ∙ sym (flag_next c.args.names.now c.loop-place.place c.term.result.now c.term.ensures)
+    ∙ sym (flag_next c.args.names.now c.loop-place.place c.term.result c.term.ensures)

@@ -42,7 +42,7 @@ add-requires g c =
     let f = c.in_ok-count.ensures in
     let t = c.take_triples.ensures in
     let seen = i.fed.1 ++ f.feeds.0 in
-    taken_few c.take_triples.new.self c.pieces.rows i.fed.0 c.take_triples.new.into.items seen (t.running ∙ f.feeds.4)
+    taken_few c.take_triples.new.self c.pieces.rows i.fed.0 c.take_triples.new.into seen (t.running ∙ f.feeds.4)
     (subst (λ (l : Limits). l.triples ≤ 2 ^ 22) (sym (t.limits ∙ f.limits)) i.limit) i.fed.2.stand
     (t.taken i.fed.0 seen (f.feeds.1.fed i.fed.0 i.fed.1 i.fed.2.has))
 
@@ -65,9 +65,9 @@ returns-then-count-eq0-clause-feeds g c =
     let more = fed_more g.S.Shelf c.args.shelf.now c.pieces.shelf c.feed_next.new.shelf c.args.reader.now.limits _ c.pieces.reader c.feed_next.new.reader
     c.pieces.rows i.fed.0 i.fed.1 i.fed.2 i.count f.limits c.in_ok-count.count f.feeds in
     let taken = fed_taken g.S.Shelf c.args.shelf.now c.feed_next.new.shelf c.args.reader.now.limits c.feed_next.new.reader c.take_triples.new.self c.pieces.rows c.add.new.self
-    i.fed.0 c.take_triples.new.into.items (i.fed.1 ++ f.feeds.0) more t.limits t.taken c.in_ok-add.ensures.stand in
+    i.fed.0 c.take_triples.new.into (i.fed.1 ++ f.feeds.0) more t.limits t.taken c.in_ok-add.ensures.stand in
     fed_all g.S.Shelf c.args.shelf.now c.pieces.shelf c.feed_next.new.shelf c.args.reader.now.limits _ c.in_ok-count.count c.pieces.reader c.feed_next.new.reader c.take_triples.new.self
-    c.pieces.rows c.add.new.self i.fed.0 c.take_triples.new.into.items i.fed.1 i.fed.2 i.count f.feeds c.if-count-eq0.true taken
+    c.pieces.rows c.add.new.self i.fed.0 c.take_triples.new.into i.fed.1 i.fed.2 i.count f.feeds c.if-count-eq0.true taken
 
 pub pieces-preserved : goal.pieces-preserved
 pieces-preserved g c =
@@ -85,9 +85,9 @@ pieces-preserved g c =
       none = c.in_ok-add.ensures.empty;
       limit = subst (λ (l : Limits). l.triples ≤ 2 ^ 22) (sym (t.limits ∙ f.limits)) i.limit;
       fed = (
-        i.fed.0 ++ c.take_triples.new.into.items,
+        i.fed.0 ++ c.take_triples.new.into,
         i.fed.1 ++ f.feeds.0,
         fed_taken g.S.Shelf c.args.shelf.now c.feed_next.new.shelf c.args.reader.now.limits c.feed_next.new.reader c.take_triples.new.self c.pieces.rows c.add.new.self
-            i.fed.0 c.take_triples.new.into.items (i.fed.1 ++ f.feeds.0) more t.limits t.taken c.in_ok-add.ensures.stand,
+            i.fed.0 c.take_triples.new.into (i.fed.1 ++ f.feeds.0) more t.limits t.taken c.in_ok-add.ensures.stand,
       );
     }

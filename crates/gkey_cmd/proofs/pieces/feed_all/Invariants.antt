@@ -12,7 +12,7 @@ invariant-pieces g l =
       count : shelf.faults l.shelf ≡ shelf.faults l.fn.shelf;
       some : 0 < length l.buf;
       few : length l.buf ≤ 65536;
-      none : l.triples.items ≡ [];
+      none : l.triples ≡ [];
       limit : l.reader.limits.triples ≤ 2 ^ 22;
       fed : (taken : List Triple) × (seen : List ℕ) × HasFed shelf l.fn.shelf l.shelf l.fn.reader.limits l.reader l.rows taken seen;
     }

@@ -27,7 +27,7 @@ add-requires g c =
     let o = c.in-Ok.ensures in
     let f = c.in_ok-feed_all.ensures in
     last_few g.S.Shelf a.shelf.now c.open.new.shelf c.feed_all.new.shelf a.limits.now a.name.now
-    (o.count (λ h. cc)) (f.asked ∙ o.asked) o.found c.in_ok-last.last.items c.new-reader.result.limits c.feed_all.new.reader c.feed_all.new.rows c.new-reader.ensures.limits f.limits f.feeds
+    (o.count (λ h. cc)) (f.asked ∙ o.asked) o.found c.in_ok-last.last c.new-reader.result.limits c.feed_all.new.reader c.feed_all.new.rows c.new-reader.ensures.limits f.limits f.feeds
     (finish_says c.feed_all.new.reader c.in_ok-last.last a.limits.now f.feeds.1.0 f.feeds.1.1 (f.limits ∙ c.new-reader.ensures.limits) f.feeds.1.5 c.in_ok-last.ensures.says) c.requires.triples
 
 pub returns-clause-gives : goal.returns-clause-gives
@@ -36,5 +36,5 @@ returns-clause-gives g c =
     let o = c.in-Ok.ensures in
     let f = c.in_ok-feed_all.ensures in
     gives_rows g.S.Shelf a.shelf.now c.open.new.shelf c.feed_all.new.shelf a.limits.now a.name.now
-    (o.count (λ h. cc)) (f.asked ∙ o.asked) o.found c.in_ok-last.last.items c.new-reader.result.limits c.feed_all.new.reader c.feed_all.new.rows c.new-reader.ensures.limits f.limits f.feeds
+    (o.count (λ h. cc)) (f.asked ∙ o.asked) o.found c.in_ok-last.last c.new-reader.result.limits c.feed_all.new.reader c.feed_all.new.rows c.new-reader.ensures.limits f.limits f.feeds
     (finish_says c.feed_all.new.reader c.in_ok-last.last a.limits.now f.feeds.1.0 f.feeds.1.1 (f.limits ∙ c.new-reader.ensures.limits) f.feeds.1.5 c.in_ok-last.ensures.says) c.add.new.self c.in_ok-add.ensures.stand

@@ -1,6 +1,5 @@
 use Rattle.std.proofs.Common.{◌≡◌, ℕ, ◌+◌, List, ◌∷◌, drop, get_or, IsUtf8, sym, ap, ◌∙◌, subst, arith}
 use Rattle.std.proofs.lemmas.List.{drop-drop, get_or-drop}
-use Rattle.gk_base.specs.declared.term.Term.TheVariants.{Blank}
 use Rattle.nt_lex.specs.Parts.{LabelIn}
 use Rattle.nt_lex.specs.Reading.{Reads}
 use Rattle.nt_lex.proofs.AnswerLemmas.{utf_after_byte}
@@ -34,13 +33,13 @@ text_from-requires-clause-utf8 c =
     let colon : get_or line (at + 1) 0 ≡ 58 = sym c.byte_at.ensures ∙ c.if-byte_at-ne58.false in
     subst (λ n. IsUtf8 (drop n line)) (two at) (utf_after_byte line (at + 1) c.requires.utf8 (known_inside line (at + 1) 58 colon (omega arith)) (omega (arith, colon)))
 
-pub returns-in_ok-label-in-Some : goal.returns-in_ok-label-in-Some
-returns-in_ok-label-in-Some c =
+pub returns-in-Some : goal.returns-in-Some
+returns-in-Some c =
     let line = c.args.line.now in
     let at = c.args.at in
     let colon : get_or line (at + 1) 0 ≡ 58 = sym c.byte_at.ensures ∙ c.if-byte_at-ne58.false in
     let found : LabelIn (drop (at + 2) line) c.in-Some.len = subst (λ (t : List ℕ). LabelIn t c.in-Some.len) c.text_from.ensures c.in-Some.ensures in
-    subst (λ (t : List ℕ). Reads line at (Blank t) (at + 2 + c.in-Some.len)) (sym c.in_ok-label-in-Some.ensures)
+    subst (λ t. Reads line at t (at + 2 + c.in-Some.len)) (sym c.new-node.ensures)
     (blank_reads line at c.in-Some.len c.requires.inside c.requires.opens colon found)
 
 pub returns-in-None : goal.returns-in-None

@@ -1,12 +1,20 @@
-use Rattle.std.proofs.Common.{ℕ, List, [], ◌++◌, refl, sym, ap, subst, ◌∙◌, drop, slice_range}
+use Rattle.std.proofs.Common.{ℕ, List, [], ◌++◌, refl, sym, ap, subst, ◌∙◌, arith, drop, slice_range}
 use Rattle.std.proofs.lemmas.Bool.{not-false}
 use Rattle.nt_lex.specs.Chars.{is_iri_excluded}
 use Rattle.nt_lex.specs.Written.{in_iri, is_no_letter, Stops, EscapeAt}
 use Rattle.nt_lex.proofs.CharLemmas.{high_iri}
-use Rattle.nt_lex.proofs.RunningLemmas.{GoesTo, goes_start, goes_run, goes_escape, escape_allowed, goes_end, stops_nil, stops_byte, stops_escape, utf_past}
+use Rattle.nt_lex.proofs.RunningLemmas.{GoesTo, runs_raw, goes_start, goes_run, goes_escape, escape_allowed, goes_end, stops_nil, stops_byte, stops_escape, utf_past}
 use Rattle.nt_lex.proofs.WrittenLemmas.{utf_after, true_false}
 use Rattle.nt_lex.proofs.body.iri_body.Goals as goal
-use Rattle.nt_lex.proofs.body.iri_body.Goals.{then-escapes-test+else-line-end-eq92, else-escapes-test, then-escapes-test+then-line-end-eq92+in_default}
+use Rattle.nt_lex.proofs.body.iri_body.Goals.{then-end-line-via-then-end-line, then-end-line-via-else-end-line+then-line-end-ne92, then-escapes-test+else-line-end-eq92, else-escapes-test, then-escapes-test+then-line-end-eq92+in_default}
+
+pub returns-then-end-line : goal.returns-then-end-line
+returns-then-end-line c =
+    runs_raw is_iri_excluded is_no_letter refl refl refl high_iri c.args.line.now c.args.from c.iri_run-end.result c.requires.inside c.requires.utf8 c.iri_run-end.ensures
+    (λ before. elim c.then-end-line.branch [
+      | then-end-line-via-then-end-line w ↦ λ is. omega (arith, before, w.if-end-line.true)
+      | then-end-line-via-else-end-line+then-line-end-ne92 w ↦ w.if-line-end-ne92.true
+    ])
 
 pub escapes-init : goal.escapes-init
 escapes-init c =

@@ -5,8 +5,8 @@ use Rattle.nt_reader.proofs.line.read_from_object.Goals as goal
 pub returns-in-None : goal.returns-in-None
 returns-in-None c = whole c.in-Ok.ensures.so c.skip_space.ensures c.in-None.ensures
 
-pub returns-in-Some : goal.returns-in-Some
-returns-in-Some c = no_end c.in-Ok.ensures.so c.skip_space.ensures c.in-Some.ensures
+pub returns-in-Ok : goal.returns-in-Ok
+returns-in-Ok c = no_end c.in-Ok.ensures.so c.skip_space.ensures c.in-Some.ensures
 
-pub returns-in-Err : goal.returns-in-Err
-returns-in-Err c = object_stop c.args.line.now c.args.subject c.args.predicate c.args.at c.in-Err.stop c.in-Err.ensures.so
+pub returns : goal.returns
+returns c = object_stop c.args.line.now c.args.subject c.args.predicate c.args.at c.in-Err.stop c.in-Err.ensures.so

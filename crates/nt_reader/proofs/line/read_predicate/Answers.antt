@@ -7,7 +7,7 @@ use Rattle.nt_reader.proofs.line.read_predicate.Goals as goal
 
 pub returns-then-byte_at-eq60-clause-so : goal.returns-then-byte_at-eq60-clause-so
 returns-then-byte_at-eq60-clause-so c =
-    may_so begins_predicate PredicateExpected c.args.line.now c.args.at (ap begins_predicate (sym c.byte_at.ensures ∙ c.if-byte_at-eq60.true)) _ c.read_iri.ensures.so
+    may_so begins_predicate PredicateExpected c.args.line.now c.args.at (ap begins_predicate (sym c.byte_at.ensures ∙ c.if-byte_at-eq60.true)) _ c.lex_iri.ensures.so
 
 pub returns-clause-so : goal.returns-clause-so
 returns-clause-so c = other (ne_eqb _ _ (λ is. c.if-byte_at-eq60.false (c.byte_at.ensures ∙ is)))

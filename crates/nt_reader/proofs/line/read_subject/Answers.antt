@@ -7,11 +7,11 @@ use Rattle.nt_reader.proofs.line.read_subject.Goals as goal
 
 pub returns-then-first-eq60-clause-so : goal.returns-then-first-eq60-clause-so
 returns-then-first-eq60-clause-so c =
-    may_so begins_subject SubjectExpected c.args.line.now c.args.at (ap begins_subject (sym c.byte_at-first.ensures ∙ c.if-first-eq60.true)) _ c.read_iri.ensures.so
+    may_so begins_subject SubjectExpected c.args.line.now c.args.at (ap begins_subject (sym c.byte_at-first.ensures ∙ c.if-first-eq60.true)) _ c.lex_iri.ensures.so
 
 pub returns-then-first-eq95-clause-so : goal.returns-then-first-eq95-clause-so
 returns-then-first-eq95-clause-so c =
-    may_so begins_subject SubjectExpected c.args.line.now c.args.at (ap begins_subject (sym c.byte_at-first.ensures ∙ c.if-first-eq95.true)) _ c.read_blank.ensures.so
+    may_so begins_subject SubjectExpected c.args.line.now c.args.at (ap begins_subject (sym c.byte_at-first.ensures ∙ c.if-first-eq95.true)) _ c.lex_blank.ensures.so
 
 pub returns-clause-so : goal.returns-clause-so
 returns-clause-so c =

@@ -28,19 +28,19 @@ said Says e so = subst (λ s. IsSo Says (Err s)) e so
 pub returns-in-Ok-None : goal.returns-in-Ok-None
 returns-in-Ok-None c = record {
   answer = None;
-  says = subst (λ a. LineSays c.args.content.now (Ok a)) c.in-Ok-None.field-0-is c.in-Ok-None.ensures.so;
-  grown = sym (append-nil c.args.triples.now.items);
+  says = subst (λ a. LineSays c.args.content.now (Ok a)) c.in-Ok-None.field-0-is c.in-Ok-None.ensures;
+  grown = sym (append-nil c.args.triples.now);
   few = λ h. h;
 }
 
 pub returns-in-Ok-Some : goal.returns-in-Ok-Some
 returns-in-Ok-Some c =
     let e = c.add.ensures in
-    added _ _ _ _ _ c.in-Ok-Some.triple _ (subst (λ a. LineSays c.args.content.now (Ok a)) c.in-Ok-Some.field-0-is c.in-Ok-Some.ensures.so) e.ok e.few e.full e.refused
+    added _ _ _ _ _ c.in-Ok-Some.triple _ (subst (λ a. LineSays c.args.content.now (Ok a)) c.in-Ok-Some.field-0-is c.in-Ok-Some.ensures) e.ok e.few e.full e.refused
 
 pub returns-in-Err-Fault : goal.returns-in-Err-Fault
 returns-in-Err-Fault c =
     let most = c.args.room in
-    let old = c.args.triples.now.items in
+    let old = c.args.triples.now in
     subst (λ stop. Judges {A = Unit {0}} most old old c.args.content.now c.args.number (Err stop)) (sym c.refused.ensures)
-    (record { number_is = refl; refused = record { why = inl (c.in-Err-Fault.fault, said (LineSays c.args.content.now) c.in-Err-Fault.field-0-is c.in-Err-Fault.ensures.so, refl) } })
+    (record { number_is = refl; refused = record { why = inl (c.in-Err-Fault.fault, said (LineSays c.args.content.now) c.in-Err-Fault.field-0-is c.in-Err-Fault.ensures, refl) } })

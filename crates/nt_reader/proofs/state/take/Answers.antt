@@ -56,7 +56,7 @@ returns-then-end-piece-clause-takes c =
 
 stopped : (limits : Limits) (old : State) (taken : List Triple) (seen : List ℕ) (s : Stands limits old taken seen) (seg : List ℕ) (b : ℕ) (p : AllPass is_line_byte seg) (e : is_line_byte b ≡ false)
     (own : length seg ≡ 0 → (eqb b 0x0A && old.after_return) ≡ false) (room : old.bytes + length seg + 1 ≤ limits.bytes) (new : List Triple) (stop : ReadStop)
-    → Judges {A = Unit {0}} old.room old.triples.items new (old.kept.items ++ seg) old.line (Err stop) → IsStopped limits (seen ++ (seg ++ b ∷ [])) stop
+    → Judges {A = Unit {0}} old.room old.triples new (old.kept.items ++ seg) old.line (Err stop) → IsStopped limits (seen ++ (seg ++ b ∷ [])) stop
 stopped limits old taken seen s seg b p e own room new NoMemory j = tt
 stopped limits old taken seen s seg b p e own room new (Refused r) j = stops_line limits old taken seen s seg b p e own room r j
 
@@ -90,7 +90,7 @@ returns-in-Err-clause-takes c =
     λ taken seen s.
     let one = stopped limits old taken (seen ++ take from piece) (c.lines.invariant.stands taken seen s) seg (get_or piece end 0)
     (range_passes is_line_byte piece from end run.in_range run.pass) (run.stops inside) own
-    (omega (arith, long, inside, c.requires.room, c.lines.invariant.bytes, run.ordered)) c.end_line.new.state.triples.items c.in-Err.stop c.in-Err.ensures.judged in
+    (omega (arith, long, inside, c.requires.room, c.lines.invariant.bytes, run.ordered)) c.end_line.new.state.triples c.in-Err.stop c.in-Err.ensures.judged in
     stopped_more limits _ (seen ++ piece) (drop (end + 1) piece) c.in-Err.stop
     (ap (λ (l : List ℕ). l ++ drop (end + 1) piece) (append_assoc seen (take from piece) (seg ++ get_or piece end 0 ∷ []) ∙ ap (λ (l : List ℕ). seen ++ l) (sym (take_line piece from end run.ordered inside)))
     ∙ append_assoc seen (take (end + 1) piece) (drop (end + 1) piece) ∙ ap (λ (l : List ℕ). seen ++ l) (take-append-drop (end + 1) piece)) one

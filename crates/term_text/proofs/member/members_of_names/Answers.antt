@@ -18,7 +18,7 @@ loop-place-preserved c =
     let test = λ (n : ℕ). is_shared_in c.args.counts.now (get_or labels n 0) in
     elim c.if-is_shared.branch [
       | then-is_shared+in_ok-text+in_ok-push w ↦
-          let term = w.term.result.now in
+          let term = w.term.result in
           let inside : place < length names = omega (arith, c.len-place-end.ensures.len) in
           let text = w.in_ok-text.ensures
           ∙ (sym (ap term_text (get_or_from_slice_get names place term term w.term.ensures))

@@ -1,14 +1,12 @@
 -- Slot by slot from the home on.
-use Rattle.std.proofs.Common.{rules, true, false, true≢false, ◌≡◌, ◌≢◌, ℕ, ◌<◌, List, length, slice_get, slice_index_or, Some, refl, sym, ap, ◌∙◌, subst, arith}
+use Rattle.std.proofs.Common.{rules, true≢false, ◌≡◌, ◌≢◌, ℕ, ◌<◌, List, length, slice_get, slice_index_or, Some, refl, sym, ap, ◌∙◌, subst, arith}
 use Rattle.std.proofs.lemmas.Option.{slice_get_read, slice_get_within}
 use Rattle.term_table.specs.Index.{home_of}
 use Rattle.term_table.proofs.SearchLemmas.{HasSearched, HasSearched-none, HasSearched-more, other_hash, absent_at, absent_past}
 use Rattle.gk_base.specs.declared.term.Term.{Term}
 use Rattle.term_table.specs.declared.slot.Slot.{Slot}
-use Rattle.gk_base.specs.contracts.term.TermPartialEq.TheImpl.{eq-value}
-use Rattle.term_table.proofs.NumberingLemmas.{same_term-true, same_term-refl, derived_eq}
 use Rattle.term_table.proofs.index.Index.find.Goals as goal
-use Rattle.term_table.proofs.index.Index.find.Goals.{else-slot-hash-via-then-slot-hash+else-eq, else-slot-hash-via-else-slot-hash}
+use Rattle.term_table.proofs.index.Index.find.Goals.{else-slot-hash-via-then-slot-hash+else-is_same, else-slot-hash-via-else-slot-hash}
 
 pub loop-at-init : goal.loop-at-init
 loop-at-init c = subst (λ at. HasSearched c.args.self.now c.args.terms.now c.args.term.now (home_of c.args.self.now.homes c.args.hash) at) (sym c.home-at.ensures.value) (HasSearched-none c.args.self.now c.args.terms.now c.args.term.now (home_of c.args.self.now.homes c.args.hash))
@@ -17,19 +15,12 @@ loop-at-init c = subst (λ at. HasSearched c.args.self.now c.args.terms.now c.ar
 there : (slots : List Slot) (at : ℕ) (slot : Slot) → at < length slots → slot ≡ slice_index_or slots at slot → slice_get slots at ≡ Some slot
 there slots at slot within is = slice_get_read slots (length slots) at slot refl within is
 
--- the comparison of the terms tells
-module _ (terms : List Term) (place : ℕ) (name term : Term) (within : place < length terms) (is : name ≡ slice_index_or terms place name) where
-  named : slice_get terms place ≡ Some name
-  named = slice_get_read terms (length terms) place name refl within is
-
-  equal : (eq-value).it name term ≡ true → slice_get terms place ≡ Some term
-  equal h = named ∙ ap Some (same_term-true name term (sym (derived_eq name term) ∙ h))
-
-  other : (eq-value).it name term ≡ false → slice_get terms place ≢ Some term
-  other h at = true≢false (sym (subst (λ t. (eq-value).it name t ≡ true) (some (sym named ∙ at)) (derived_eq name name ∙ same_term-refl name)) ∙ h)
-    where
-      some : {a b : Term} → Some a ≡ Some b → a ≡ b
-      some h = cc
+-- where another term stands the term does not
+other : (terms : List Term) (place : ℕ) (name term : Term) → slice_get terms place ≡ Some name → name ≢ term → slice_get terms place ≢ Some term
+other terms place name term named differs at = differs (some (sym named ∙ at))
+  where
+    some : {a b : Term} → Some a ≡ Some b → a ≡ b
+    some h = cc
 
 pub returns-then-slot-clause-absent : goal.returns-then-slot-clause-absent
 returns-then-slot-clause-absent c =
@@ -38,18 +29,14 @@ returns-then-slot-clause-absent c =
     (there c.args.self.now.slots.items c.loop-at.at c.index-slot.result.now (search rules) c.index-slot.ensures)
     (λ taken. taken c.if-slot.true)
 
-pub bounds-terms-slot : goal.bounds-terms-slot
-bounds-terms-slot c =
+pub get-requires : goal.get-requires
+get-requires c =
     let slot = c.index-slot.result.now in
     let name = c.requires.index.only slot (record { at = c.loop-at.at; there = there c.args.self.now.slots.items c.loop-at.at slot (search rules) c.index-slot.ensures; taken = c.if-slot.false }) in
     slice_get_within c.args.terms.now slot.place name.0 name.1
 
-pub returns-then-eq-clause-found : goal.returns-then-eq-clause-found
-returns-then-eq-clause-found c =
-    let slot = c.index-slot.result.now in
-    let name = c.requires.index.only slot (record { at = c.loop-at.at; there = there c.args.self.now.slots.items c.loop-at.at slot (search rules) c.index-slot.ensures; taken = c.if-slot.false }) in
-    equal c.args.terms.now slot.place c.index-terms-slot.result c.args.term.now (slice_get_within c.args.terms.now slot.place name.0 name.1) c.index-terms-slot.is
-    (sym c.eq.ensures ∙ c.if-eq.true)
+pub returns-then-is_same-clause-found : goal.returns-then-is_same-clause-found
+returns-then-is_same-clause-found c = c.get.ensures ∙ ap Some (c.is_same.ensures.0 c.if-is_same.true)
 
 pub loop-at-smaller : goal.loop-at-smaller
 loop-at-smaller c = omega (arith, c.loop-at-test.true, c.len.ensures)
@@ -60,10 +47,9 @@ loop-at-preserved c =
     let at = there c.args.self.now.slots.items c.loop-at.at slot (search rules) c.index-slot.ensures in
     HasSearched-more c.args.self.now (home_of c.args.self.now.homes c.args.hash) c.loop-at.at slot at c.args.terms.now c.args.term.now c.if-slot.false
     (elim c.else-slot-hash.branch [
-      | else-slot-hash-via-then-slot-hash+else-eq w ↦
-          let name = c.requires.index.only slot (record { at = c.loop-at.at; there = at; taken = c.if-slot.false }) in
-          other c.args.terms.now slot.place w.index-terms-slot.result c.args.term.now (slice_get_within c.args.terms.now slot.place name.0 name.1) w.index-terms-slot.is
-          (sym w.eq.ensures ∙ w.if-eq.false)
+      | else-slot-hash-via-then-slot-hash+else-is_same w ↦
+          other c.args.terms.now slot.place w.get.result c.args.term.now w.get.ensures
+          (λ same. true≢false (sym (w.is_same.ensures.1 same) ∙ w.if-is_same.false))
       | else-slot-hash-via-else-slot-hash w ↦
           other_hash c.args.self.now c.args.terms.now c.args.term.now c.requires.index c.loop-at.at slot at c.if-slot.false (λ same. w.if-slot-hash.false (same ∙ sym c.requires.hash))
     ])

@@ -1,4 +1,4 @@
-use Rattle.std.proofs.Common.{◌≡◌, ◌≢◌, ℕ, ◌-◌, ◌^◌, ◌<◌, false, List, [], ◌∷◌, ◌++◌, length, Some, slice_get, sym, ap, subst, ◌∙◌, arith}
+use Rattle.std.proofs.Common.{◌≡◌, ◌-◌, ◌^◌, ◌<◌, false, List, [], ◌∷◌, ◌++◌, length, Some, slice_get, sym, ap, subst, ◌∙◌}
 use Rattle.gk_base.specs.declared.term.Term.{Term}
 use Rattle.term_table.specs.Numbering.{is_named, with_term, AreDistinct}
 use Rattle.term_table.proofs.NumberingLemmas.{is_named-at, with_term-named, with_term-new, slice_get-push}
@@ -8,39 +8,37 @@ use Rattle.term_table.proofs.names.Names.intern_hashed.Goals as goal
 
 pub returns-in-Some-clause-ok : goal.returns-in-Some-clause-ok
 returns-in-Some-clause-ok c =
-    let seen = c.deref.ensures.value ∙ c.self.view_is in
-    let at = subst (λ names. slice_get names c.in-Some.place ≡ Some c.args.term) seen c.in-Some.ensures.found in
-    sym (with_term-named c.args.self.now c.args.term (is_named-at c.args.self.now c.args.term c.in-Some.place at))
+    let at = subst (λ names. slice_get names c.in-Some.place ≡ Some c.args.term.now) c.self.view_is c.in-Some.ensures.found in
+    sym (with_term-named c.args.self.now c.args.term.now (is_named-at c.args.self.now c.args.term.now c.in-Some.place at))
 
 -- a term that was not found goes last
-module _ (c : goal.After-push_reserved) where
+module _ (c : goal.In-Ok) where
   abbrev terms : List Term
-  terms = c.self.inside.terms.items
+  terms = c.self.inside.terms
 
-  fresh : is_named terms c.args.term ≡ false
-  fresh =
-      is_named-nowhere terms c.args.term
-      (subst (λ names. (place : ℕ) → slice_get names place ≢ Some c.args.term) c.deref.ensures.value c.in_default.ensures.absent)
+  fresh : is_named terms c.args.term.now ≡ false
+  fresh = is_named-nowhere terms c.args.term.now c.in_default.ensures.absent
 
-  added : c.push_reserved.new.self.items ≡ terms ++ c.args.term ∷ []
-  added = c.push_reserved.ensures.items ∙ ap (λ l. l ++ c.args.term ∷ []) c.in_ok-reserve.ensures.items
+  added : c.push.new.self ≡ terms ++ c.args.term.now ∷ []
+  added = c.in_ok-push.ensures.ok
 
   last : c.len-place.result ≡ length terms
-  last = let ok = c.self.inside.terms.ok in omega (arith, ok, c.len-place.ensures)
+  last = c.len-place.ensures
 
-pub invariant_of-self-2 : goal.invariant_of-self-2
-invariant_of-self-2 c =
-    AreIndexed-added c.add.new.self (terms c) c.push_reserved.new.self.items c.args.term (added c)
+pub invariant_of-self-in-Ok : goal.invariant_of-self-in-Ok
+invariant_of-self-in-Ok c =
+    AreIndexed-added c.add.new.self (terms c) c.push.new.self c.args.term.now (added c)
     (subst (λ names. length names < 2 ^ 32 - 1) (sym c.self.view_is) c.requires.few) (fresh c) c.self.invariant.distinct
-    (c.in_ok-add.ensures.ok (terms c) c.args.term c.self.invariant.indexed (sym (last c)) (sym c.requires.hash))
+    (c.in-Ok.ensures.ok (terms c) c.args.term.now c.self.invariant.indexed (sym (last c)) (sym c.requires.hash))
 
-pub returns-clause-place : goal.returns-clause-place
-returns-clause-place c =
-    ap (λ l. slice_get l c.len-place.result) (added c) ∙ ap (slice_get (terms c ++ c.args.term ∷ [])) (last c)
-    ∙ slice_get-push (terms c) c.args.term
+pub returns-in-Ok-clause-place : goal.returns-in-Ok-clause-place
+returns-in-Ok-clause-place c =
+    ap (λ l. slice_get l c.len-place.result) (added c) ∙ ap (slice_get (terms c ++ c.args.term.now ∷ [])) (last c)
+    ∙ slice_get-push (terms c) c.args.term.now
 
-pub returns-clause-ok : goal.returns-clause-ok
-returns-clause-ok c = added c ∙ sym (with_term-new (terms c) c.args.term (fresh c)) ∙ ap (λ names. with_term names c.args.term) c.self.view_is
+pub returns-in-Ok-clause-ok : goal.returns-in-Ok-clause-ok
+returns-in-Ok-clause-ok c =
+    added c ∙ sym (with_term-new (terms c) c.args.term.now (fresh c)) ∙ ap (λ names. with_term names c.args.term.now) c.self.view_is
 
 pub returns-in-Some-clause-distinct : goal.returns-in-Some-clause-distinct
 returns-in-Some-clause-distinct c = subst AreDistinct c.self.view_is c.self.invariant.distinct
