@@ -1,9 +1,10 @@
 //! Blank nodes.
 
-ghost use Rattle.std.specs.Prelude.{◌≡◌, ◌<◌, ◌≤◌, length, drop, slice_index, IsUtf8, IfOk, IfSome, ℕ, Result};
+ghost use Rattle.std.specs.Prelude.{◌≡◌, ◌≢◌, ◌<◌, ◌≤◌, length, drop, slice_index, IsUtf8, IfOk, IfSome, ℕ, Result, Err};
 ghost use Rattle.std.specs.Str.{IsCharBoundary};
 ghost use Rattle.gk_base.specs.declared.term.Term.{Term};
 ghost use Rattle.gk_base.specs.declared.lex_fault.LexFault.{LexFault};
+ghost use Rattle.gk_base.specs.declared.lex_fault.LexStop.TheVariants.{NoMemory};
 ghost use Rattle.nt_lex.specs.Answers.{IsSo, Gives};
 ghost use Rattle.nt_lex.specs.Chars.{is_between, is_pn_chars_base, is_pn_chars_u, is_label_first, is_pn_chars, is_label_inner};
 ghost use Rattle.nt_lex.specs.Parts.{OthersIn, LabelSays};
@@ -124,7 +125,8 @@ pub(crate) fn blank_answer<'a>(line: &'a [u8], at: usize) -> Result<(LexedTerm<'
     requires inside { at < length line.now }
     requires opens { slice_index line.now at ≡ 0x5F }
     requires utf8 { IsUtf8 line.now }
-    ensures { IsSo (Says line.now at) result }
+    ensures so { IsSo (Says line.now at) result }
+    ensures sure { result ≢ Err NoMemory }
 {
     if byte_at(line, at + 1) != b':' {
         return Err(LexStop::Fault(LexFault::BadBlankNodeLabel));
@@ -151,8 +153,9 @@ pub fn lex_blank<'a>(line: &'a [u8], at: usize) -> Result<(LexedTerm<'a>, usize)
     requires utf8 { IsUtf8 line.now }
     // What was answered is what stands there.
     ensures so { IsSo (Says line.now at) result }
-    // What stands there was answered.
+    // What stands there was answered, and memory can't run out.
     ensures only { (answer : Result (Term × ℕ) LexFault) → Says line.now at answer → Gives result answer }
+    ensures sure { result ≢ Err NoMemory }
     ensures boundary { IfOk result (λ r. IsCharBoundary line.now r.1) }
 {
     blank_answer(line, at)

@@ -19,8 +19,8 @@ past line at more e = sym (drop-drop 1 at line) ∙ ap (drop 1) e
 two : (at : ℕ) → at + 1 + 1 ≡ at + 2
 two at = omega arith
 
-pub returns-then-byte_at-ne58 : goal.returns-then-byte_at-ne58
-returns-then-byte_at-ne58 c =
+pub returns-then-byte_at-ne58-clause-so : goal.returns-then-byte_at-ne58-clause-so
+returns-then-byte_at-ne58-clause-so c =
     let line = c.args.line.now in
     let at = c.args.at in
     blank_fails line at c.requires.inside c.requires.opens
@@ -33,8 +33,8 @@ text_from-requires-clause-utf8 c =
     let colon : get_or line (at + 1) 0 ≡ 58 = sym c.byte_at.ensures ∙ c.if-byte_at-ne58.false in
     subst (λ n. IsUtf8 (drop n line)) (two at) (utf_after_byte line (at + 1) c.requires.utf8 (known_inside line (at + 1) 58 colon (omega arith)) (omega (arith, colon)))
 
-pub returns-in-Some : goal.returns-in-Some
-returns-in-Some c =
+pub returns-in-Some-clause-so : goal.returns-in-Some-clause-so
+returns-in-Some-clause-so c =
     let line = c.args.line.now in
     let at = c.args.at in
     let colon : get_or line (at + 1) 0 ≡ 58 = sym c.byte_at.ensures ∙ c.if-byte_at-ne58.false in
@@ -42,8 +42,8 @@ returns-in-Some c =
     subst (λ t. Reads line at t (at + 2 + c.in-Some.len)) (sym c.new-node.ensures)
     (blank_reads line at c.in-Some.len c.requires.inside c.requires.opens colon found)
 
-pub returns-in-None : goal.returns-in-None
-returns-in-None c =
+pub returns-in-None-clause-so : goal.returns-in-None-clause-so
+returns-in-None-clause-so c =
     let line = c.args.line.now in
     let at = c.args.at in
     blank_fails line at c.requires.inside c.requires.opens

@@ -6,8 +6,8 @@ use Rattle.nt_lex.proofs.BoundaryLemmas.{answer_boundary}
 use Rattle.nt_lex.proofs.blank.lex_blank.Goals as goal
 
 pub returns-clause-only : goal.returns-clause-only
-returns-clause-only c = only_from (Says c.args.line.now c.args.at) (says_once c.args.line.now c.args.at) _ c.blank_answer.ensures
+returns-clause-only c = only_from (Says c.args.line.now c.args.at) (says_once c.args.line.now c.args.at) _ c.blank_answer.ensures.so
 
 pub returns-clause-boundary : goal.returns-clause-boundary
 returns-clause-boundary c =
-    answer_boundary c.args.line.now c.args.at _ c.requires.utf8 c.requires.inside (omega (arith, c.requires.opens)) c.blank_answer.ensures
+    answer_boundary c.args.line.now c.args.at _ c.requires.utf8 c.requires.inside (omega (arith, c.requires.opens)) c.blank_answer.ensures.so

@@ -7,7 +7,7 @@ use Rattle.nt_lex.proofs.BoundaryLemmas.{answer_boundary}
 use Rattle.nt_lex.proofs.blank.read_blank.Goals as goal
 
 so : (c : goal.After-owned) → IsSo (Says c.args.line.now c.args.at) c.owned.result
-so c = owned_so (Says c.args.line.now c.args.at) c.owned.result c.blank_answer.result c.owned.ensures c.blank_answer.ensures
+so c = owned_so (Says c.args.line.now c.args.at) c.owned.result c.blank_answer.result c.owned.ensures c.blank_answer.ensures.so
 
 pub returns-clause-only : goal.returns-clause-only
 returns-clause-only c = only_from (Says c.args.line.now c.args.at) (says_once c.args.line.now c.args.at) _ (so c)
