@@ -1,0 +1,6 @@
+pub mod Sums
+pub mod Knowing
+pub mod Calling
+pub mod Keeps
+pub mod Rows
+pub mod Gathering
