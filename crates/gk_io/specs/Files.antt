@@ -8,7 +8,7 @@ bytes_of (file ∷ files) name = if bytes_eq file.0 name then file.1 else bytes_
 
 -- A read into a buffer of `room` bytes took the first n of the bytes `old`, which left `new`, and put them at the
 -- front of the buffer; n is 0 for a buffer with room exactly where nothing was left (this project's own).
-pub record Reads (room n : ℕ) (old new buf : List ℕ) : Type 0 where
+pub record TakesNext (room n : ℕ) (old new buf : List ℕ) : Type 0 where
   pub within : n ≤ length old
   pub bytes : take n buf ≡ take n old
   pub rest : new ≡ drop n old

@@ -5,11 +5,13 @@ ghost use Rattle.std.specs.Str.{IsUtf8};
 ghost use Rattle.std.specs.Io.KnownBytes.{ReadConsumes};
 ghost use Rattle.gk_io.specs.Cause.{HasCause, Rose};
 
-use crate::retries::MOST_TRIES;
+use crate::retries::{MOST_TRIES, tried};
 use crate::{Failed, Shelf};
 use gk_base::Text;
+use std::fs::OpenFile;
 use std::io::{ErrorKind, Read};
 use std::marker::Model;
+use std::random::RandomSource;
 use std::rt::Files;
 use std::{fs, str};
 
@@ -20,14 +22,7 @@ fn open<R: Files>(rt: &R, name: &Text) -> Result<R::File, Failed>
     let Ok(path) = str::from_utf8(name.bytes()) else {
         return Err(Failed);
     };
-    for _ in 0..MOST_TRIES {
-        match fs::open(rt, path) {
-            Ok(file) => return Ok(file),
-            Err(e) if e.kind() == ErrorKind::Interrupted => {}
-            Err(_) => return Err(Failed),
-        }
-    }
-    Err(Failed)
+    tried(|| fs::open(rt, path))
 }
 
 /// Reads some bytes.
@@ -47,7 +42,9 @@ pub(crate) fn read_some<F: Read>(file: &mut F, buf: &mut [u8]) -> Result<usize, 
 
 /// The system's files, by path. It tells no bytes.
 ///
-/// A call that was interrupted is tried again, at most 1,000 times in a row, and then counts as a failure.
+/// A call that was interrupted is tried again, at most 1,000 times in a row, and then counts as a failure. No clause can say
+/// what the system does, so tests alone show that a call is tried again, and that the file read after `find` is the one of
+/// that name.
 #[derive(Drop)]
 pub struct DirShelf<'a, R: Files> {
     rt: &'a R,
@@ -98,9 +95,32 @@ impl<'a, R: Files> DirShelf<'a, R> {
         self.faults = self.faults.saturating_add(1);
         Failed
     }
+
+    /// Turns to the file that was opened under this name, to read all that is left of it; or notes that none could be opened,
+    /// and stays at the file before.
+    fn turn_to(&mut self, name: Text, opened: Result<R::File, Failed>) -> Result<(), Failed>
+        ensures answer { IsOk result ↔ IsOk opened }
+        ensures turned { IfOk opened (λ file. self.new.rest ≡ R.File.Read.remaining file) }
+        ensures stays { OnErr opened (self.new.rest ≡ self.old.rest) }
+        ensures found { self.new.found ≡ (self.old.found || is_ok opened) }
+        ensures asked { self.new.asked ≡ Some name }
+        ensures bad { IsTrue self.new.bad ↔ IsErr opened }
+        ensures counts { OnErr opened (self.new.faults ≡ min (self.old.faults + 1) (2 ^ 64 - 1)) }
+        ensures cause { HasCause self.old.faults self.new.faults result }
+    {
+        self.asked = Some(name);
+        match opened {
+            Ok(file) => {
+                self.file = Some(file);
+                self.bad = false;
+                Ok(())
+            }
+            Err(Failed) => Err(self.fail()),
+        }
+    }
 }
 
-impl<'a, R: Files> Shelf for DirShelf<'a, R> {
+impl<'a, R: Files + RandomSource> Shelf for DirShelf<'a, R> {
     ghost faults = { λ s. s.faults };
 
     ghost asked = { λ s. s.asked };
@@ -123,16 +143,8 @@ impl<'a, R: Files> Shelf for DirShelf<'a, R> {
         ensures asked { self.new.asked ≡ Some name }
         ensures bad { IsTrue self.new.bad ↔ IsErr result }
     {
-        let found = open(self.rt, &name);
-        self.asked = Some(name);
-        match found {
-            Ok(file) => {
-                self.file = Some(file);
-                self.bad = false;
-                Ok(())
-            }
-            Err(Failed) => Err(self.fail()),
-        }
+        let opened = open(self.rt, &name);
+        self.turn_to(name, opened)
     }
 
     /// Reads on in the file found last, and finds nothing to read where none was found so far.
@@ -155,6 +167,24 @@ impl<'a, R: Files> Shelf for DirShelf<'a, R> {
             Ok(n) => Ok(n),
             Err(Failed) => Err(self.fail()),
         }
+    }
+
+    /// What the system says of the file found last.
+    fn size_hint(&self) -> u64 {
+        match &self.file {
+            Some(file) => match file.metadata() {
+                Ok(metadata) => metadata.len(),
+                Err(_) => 0,
+            },
+            None => 0,
+        }
+    }
+
+    /// Random bytes of the system.
+    fn hash_seed(&self) -> Option<u64> {
+        let mut bytes = [0; 8];
+        self.rt.fill_bytes(&mut bytes).ok()?;
+        Some(u64::from_le_bytes(bytes))
     }
 }
 

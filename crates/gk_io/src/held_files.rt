@@ -2,7 +2,7 @@
 
 ghost use Rattle.std.specs.Prelude.{◌≡◌, ◌<◌, ◌↔◌, [], length, min, IsTrue};
 ghost use Rattle.std.specs.Bool.{OnTrue, OnFalse};
-ghost use Rattle.gk_io.specs.Files.{bytes_of, Reads};
+ghost use Rattle.gk_io.specs.Files.{bytes_of, TakesNext};
 ghost use Rattle.gk_io.specs.HeldFiles.{contents_of, rest_of, has_file};
 
 use gk_base::Text;
@@ -86,7 +86,7 @@ impl HeldFiles {
     pub(crate) fn read(&mut self, buf: &mut [u8], most: usize) -> usize
         requires { 0 < most }
         ensures files { self.new.files ≡ self.old.files }
-        ensures bytes { Reads (length buf.old) result self.old.rest self.new.rest buf.new }
+        ensures bytes { TakesNext (length buf.old) result self.old.rest self.new.rest buf.new }
         ensures count { result ≡ min (length self.old.rest) (min (length buf.old) most) }
     {
         if self.place >= self.files.len() {

@@ -2,7 +2,7 @@
 
 ghost use Rattle.std.specs.Prelude.{◌≡◌, ◌<◌, ◌≤◌, ◌+◌, ◌-◌, ◌^◌, ◌||◌, ◌↔◌, ◌⊎◌, [], Some, None, false, is_err, IfOk, OnOk, OnErr, IsErr, IsTrue, Contains, length, min};
 ghost use Rattle.gk_io.specs.Cause.{HasCause};
-ghost use Rattle.gk_io.specs.Files.{bytes_of, Reads};
+ghost use Rattle.gk_io.specs.Files.{bytes_of, TakesNext};
 ghost use Rattle.gk_io.specs.HeldFiles.{contents_of, has_file};
 
 use crate::calls::Calls;
@@ -118,7 +118,7 @@ impl Shelf for MemShelf {
         ensures bad { self.new.bad ≡ (self.old.bad || is_err result) }
         ensures held { self.new.files ≡ self.old.files }
         ensures within { IfOk result (λ n. n ≤ length buf.old) }
-        ensures bytes { IfOk result (λ n. Reads (length buf.old) n self.old.rest self.new.rest buf.new) }
+        ensures bytes { IfOk result (λ n. TakesNext (length buf.old) n self.old.rest self.new.rest buf.new) }
         ensures err { OnErr result (self.new.rest ≡ self.old.rest) }
     {
         if self.calls.begin() {

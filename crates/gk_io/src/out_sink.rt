@@ -42,7 +42,8 @@ fn flush<W: Write>(writer: &mut W) -> Result<(), Failed>
 /// A stream of the system, or another writer of std, which is flushed after each write. As a sink it tells no bytes.
 ///
 /// A call that was interrupted is tried again, at most 1,000 times in a row, and then counts as a failure. So does
-/// a write that takes nothing of a piece that is not empty, and a flush that fails.
+/// a write that takes nothing of a piece that is not empty, and a flush that fails. A writer's contract says nothing of a flush
+/// or of an interruption, so tests alone show that each write is flushed and that a call is tried again.
 #[derive(Drop)]
 pub struct OutSink<W: Write> {
     writer: W,

@@ -2,7 +2,7 @@
 
 ghost use Rattle.std.specs.Prelude.{◌≡◌, ◌≤◌, ◌||◌, ◌↔◌, Bool, Option, List, ℕ, Some, length, is_err, IsTrue, IsErr, IfOk, IfSome, IsSomeAnd, OnOk, OnErr};
 ghost use Rattle.gk_io.specs.Cause.{HasCause};
-ghost use Rattle.gk_io.specs.Files.{bytes_of, Reads};
+ghost use Rattle.gk_io.specs.Files.{bytes_of, TakesNext};
 
 use crate::Failed;
 use gk_base::Text;
@@ -51,6 +51,18 @@ pub trait Shelf {
         ensures held { held self.new ≡ held self.old }
         ensures within { IfOk result (λ n. n ≤ length buf.old) }
         ensures bytes { IfOk result (λ n. IfSome (rest self.old) (λ old.
-            IsSomeAnd (rest self.new) (λ new. Reads (length buf.old) n old new buf.new))) }
+            IsSomeAnd (rest self.new) (λ new. TakesNext (length buf.old) n old new buf.new))) }
         ensures err { OnErr result (rest self.new ≡ rest self.old) };
+
+    /// About how many bytes the file found last has. It is a guess, and 0 where nothing is known, so nothing but the time that
+    /// a reader takes may rest on it.
+    fn size_hint(&self) -> u64 {
+        0
+    }
+
+    /// A number that who made the files can't have foreseen, to begin hashes with, and none where there is no such number. It
+    /// may be another at each call, so nothing but the time that a reader takes may rest on it.
+    fn hash_seed(&self) -> Option<u64> {
+        None
+    }
 }

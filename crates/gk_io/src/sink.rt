@@ -27,8 +27,8 @@ pub trait Sink {
         ensures err { OnErr result (taken self.new ≡ taken self.old) };
 }
 
-/// Writes the whole text, by as many calls of `write` as that takes, each with all of the text that is left.
-/// An empty text makes no call.
+/// Writes the whole text, by as many calls of `write` as that takes. An empty text makes no call. Each call is handed all of
+/// the text that is left, which a test shows, since a sink's contract says what it took and not what it was handed.
 ///
 /// After `Failed` the sink took a front of the text that is not the whole.
 pub fn write_all<K: Sink>(sink: &mut K, text: &[u8]) -> Result<(), Failed>

@@ -1,3 +1,5 @@
+ghost use Rattle.std.specs.Prelude.{◌-◌, ◌^◌, None};
+
 use crate::{Failed, MemShelf, MemSink, Shelf, Sink, SureShelf, SureSink, write_all};
 use gk_base::Text;
 use std::alloc::Global;
@@ -91,5 +93,34 @@ fn sure_sink_keeps_what_fits(rt: HostRuntime) -> Result<(), Fail> {
         assert_eq!(rt; sink.write(piece), Ok(3));
         assert_eq!(rt; sink.bytes(), kept);
     }
+    Ok(())
+}
+
+/// A sink that takes one byte of each piece, and notes how long the pieces were.
+#[derive(Drop)]
+struct SlowSink {
+    lengths: Vec<usize>,
+}
+
+impl Sink for SlowSink {
+    ghost faults = { λ _. 2 ^ 64 - 1 };
+
+    ghost taken = { λ _. None };
+
+    fn write(&mut self, piece: &[u8]) -> Result<usize, Failed> {
+        if self.lengths.push(piece.len()).is_err() {
+            return Err(Failed);
+        }
+        Ok(piece.len().min(1))
+    }
+}
+
+#[test]
+fn each_write_is_handed_all_that_is_left(rt: HostRuntime) -> Result<(), Fail> {
+    let mut sink = SlowSink {
+        lengths: Vec::new(rt.alloc()),
+    };
+    write_all(&mut sink, b"text")?;
+    assert_eq!(rt; sink.lengths.as_slice(), [4, 3, 2, 1].as_slice());
     Ok(())
 }

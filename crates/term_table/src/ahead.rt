@@ -1,47 +1,23 @@
 //! Look-ups of many terms that go step by step together.
 //!
-//! A look-up in a table that is larger than the processor's caches waits for memory at each of its steps: the slot, the term,
-//! the text. Where the look-ups of many terms take the same step one after another, they wait at the same time. What is found
-//! so is a place to try first, and no more.
+//! A look-up in a table that is larger than the processor's caches waits for memory at each of its steps: the set's group, the
+//! mark, the term's places, its text. Where many look-ups take the same step one after another, they wait at the same time.
+//! What is found so is a place to try first, and no more: it need not be right, so no clause says more than how many there are.
 
 ghost use Rattle.std.specs.Prelude.{◌≡◌, length, IfOk};
 
-use crate::index::Index;
-use crate::slot::{NO_PLACE, Slot};
+use crate::marks::{Marks, NO_PLACE};
 use gk_base::NoMemory;
 use std::alloc::Global;
 use term_list::Terms;
 
-// The slots at the homes of these hashes.
-fn slots_at_home(alloc: Global, index: &Index, hashes: &[u32]) -> Result<Vec<Slot>, NoMemory>
-    ensures { IfOk result (λ slots. length slots.items ≡ length hashes.now) }
+// The places of the terms with these marks.
+fn places_with(alloc: Global, marks: &Marks, numbers: &[u32]) -> Result<Vec<u32>, NoMemory>
+    ensures { IfOk result (λ places. length places.items ≡ length numbers.now) }
 {
-    let mut slots = Vec::with_capacity(alloc, hashes.len())?;
-    for hash in hashes {
-        slots.push(index.at_home(*hash))?;
-    }
-    Ok(slots)
-}
-
-// The first place with each of these hashes.
-fn first_places(
-    alloc: Global,
-    index: &Index,
-    hashes: &[u32],
-    slots: &[Slot],
-) -> Result<Vec<u32>, NoMemory>
-    requires { length slots.now ≡ length hashes.now }
-    ensures { IfOk result (λ places. length places.items ≡ length hashes.now) }
-{
-    let mut places = Vec::with_capacity(alloc, hashes.len())?;
-    for (at, hash) in hashes.iter().enumerate() {
-        let slot = slots[at];
-        let place = if slot.hash == *hash {
-            slot.place
-        } else {
-            index.first_with(*hash)
-        };
-        places.push(place)?;
+    let mut places = Vec::with_capacity(alloc, numbers.len())?;
+    for number in numbers {
+        places.push(marks.place_with(*number))?;
     }
     Ok(places)
 }
@@ -80,19 +56,18 @@ fn end_alike(name: &[u8], term: &[u8]) -> bool {
     name.last() == term.last()
 }
 
-/// For each of these terms, whose hashes are given, the place where it may stand in the list of names that is indexed.
+/// For each of these terms the place where it may stand in the list of names that has these marks: that of the name whose mark
+/// is the term's hash.
 pub(crate) fn likely_places(
     alloc: Global,
-    index: &Index,
+    marks: &Marks,
     names: &Terms,
-    hashes: &[u32],
     terms: &Terms,
 ) -> Result<Vec<u32>, NoMemory>
-    requires { length hashes.now ≡ length terms.now }
     ensures { IfOk result (λ places. length places.items ≡ length terms.now) }
 {
-    let slots = slots_at_home(alloc, index, hashes)?;
-    let places = first_places(alloc, index, hashes, &slots)?;
+    let hashes = marks.hasher().hashes_of(alloc, terms)?;
+    let places = places_with(alloc, marks, &hashes)?;
     let places = where_like(alloc, names, &places, terms, are_as_long)?;
     where_like(alloc, names, &places, terms, end_alike)
 }

@@ -1,10 +1,11 @@
 //! The numbering of terms. Each distinct term of a graph is stored once, in a packed list, and gets a number, its place by
-//! first occurrence, so that all later work is on numbers of four bytes. Numbers are looked up by term in one step of a hash
-//! table, and terms by number in an array. `alike` tells which literals are the same but for the case of their letters.
+//! first occurrence, so that all later work is on numbers of four bytes. Numbers are looked up by term through a set of *marks*,
+//! numbers of four bytes too, one for each term and found from its hash; terms are looked up by number in the list. `alike`
+//! tells which literals are the same but for the case of their letters.
 //!
 //! - `names`: the table of the names
-//! - `index`, `slot`: from a term's hash to its place
-//! - `hashing`: the hashes of terms
+//! - `marks`: from a term to its place
+//! - `hashing`: the hashes of terms, begun with a seed
 //! - `ahead`: look-ups of many terms that go step by step together
 //! - `folding`: which literals are the same but for case
 #![tactic(auto)]
@@ -12,9 +13,8 @@
 mod ahead;
 mod folding;
 mod hashing;
-mod index;
+mod marks;
 mod names;
-mod slot;
 
 pub use names::Names;
 

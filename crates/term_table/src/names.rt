@@ -2,13 +2,12 @@
 
 ghost use Rattle.std.specs.Prelude.{◌≡◌, ℕ, ◌+◌, ◌-◌, ◌^◌, ◌<◌, ◌≤◌, ◌↔◌, [], length, map, slice_get, slice_index, Some, IsSome, IsNone, IfSome, IfOk, OnOk, OnErr, Contains};
 ghost use Rattle.term_table.specs.Folding.{FoldsOf, folds_of, IsLiteralAt};
-ghost use Rattle.term_table.specs.Index.{hash_of};
 ghost use Rattle.term_table.specs.Numbering.{with_term, with_terms, place_of, AreDistinct, HasTakenSome};
 
 use crate::ahead::likely_places;
 use crate::folding::folds;
-use crate::hashing::{hash_of, hashes_of};
-use crate::index::Index;
+use crate::hashing::TermHasher;
+use crate::marks::Marks;
 use gk_base::{NoMemory, Term};
 use std::alloc::Global;
 use std::marker::Model;
@@ -17,34 +16,52 @@ use term_list::{TermRef, Terms};
 /// The names of a graph: its distinct terms, each stored once, packed as `Terms` are, with texts of 2^32 - 1 bytes in all
 /// at most. A name's number is its place, counted from 0 in the order in which the terms came, and never changes.
 /// Contracts see the list of the terms.
+///
+/// Beside the terms stand their marks, by which they are looked up.
 #[derive(Drop)]
 pub struct Names {
     alloc: Global,
     terms: Terms,
-    index: Index,
+    marks: Marks,
 }
 
 impl Model for Names {
     ghost use Rattle.std.specs.Prelude.{List};
     ghost use Rattle.gk_base.specs.declared.term.Term.{Term};
-    ghost use Rattle.term_table.specs.Index.{AreIndexed};
+    ghost use Rattle.term_table.specs.Marks.{AreMarked, hash_of};
 
     ghost Value = { List Term };
 
     ghost view = { λ n. n.terms };
 
-    ghost invariant = { λ n. AreIndexed n.index n.terms };
+    ghost invariant = { λ n. AreMarked (hash_of n.marks.hasher) n.marks.set.keys n.terms };
 }
 
 impl Names {
-    /// No names. It takes no memory.
+    /// No names. It takes no memory. They are looked up by hashes that are the same in every run, so somebody could search for
+    /// terms that take long to look up: where the terms come from others, `with_seed` is better.
     pub fn new(alloc: Global) -> Names
+        ensures { result ≡ [] }
+    {
+        Names::hashed_by(alloc, TermHasher::fixed())
+    }
+
+    /// No names, which are looked up by hashes that begin with this seed. Nothing but time depends on the seed. It takes no
+    /// memory.
+    pub fn with_seed(alloc: Global, seed: u64) -> Names
+        ensures { result ≡ [] }
+    {
+        Names::hashed_by(alloc, TermHasher::seeded(seed))
+    }
+
+    /// No names, which will be hashed so.
+    pub(crate) fn hashed_by(alloc: Global, hasher: TermHasher) -> Names
         ensures { result ≡ [] }
     {
         Names {
             alloc,
             terms: Terms::new(alloc),
-            index: Index::new(alloc),
+            marks: Marks::new(alloc, hasher),
         }
     }
 
@@ -57,6 +74,14 @@ impl Names {
         self.terms.len() as u32
     }
 
+    /// Makes room for about so many more names before they come, as far as there is memory. The number is a guess: more names
+    /// may come, or fewer.
+    pub fn expect(&mut self, count: u32)
+        ensures { self.new ≡ self.old }
+    {
+        self.marks.expect(count as usize);
+    }
+
     /// The number of this term. A term that is not yet a name becomes the last one. After `NoMemory`, which comes also
     /// where the texts would be longer than the names can hold, the names are as they were.
     pub fn intern(&mut self, term: Term) -> Result<u32, NoMemory>
@@ -67,38 +92,35 @@ impl Names {
         ensures err { OnErr result (self.new ≡ self.old) }
         ensures distinct { AreDistinct self.new }
     {
-        let lent = TermRef::of(&term);
-        self.intern_hashed(hash_of(&lent), &lent)
+        self.intern_lent(&TermRef::of(&term))
     }
 
-    // The number of this term, whose hash is given.
-    fn intern_hashed(&mut self, hash: u32, term: &TermRef<'_>) -> Result<u32, NoMemory>
-        requires few { length self.old < 2 ^ 32 - 1 }
-        requires hash { hash ≡ hash_of term.now }
+    // The number of this term, which becomes the last name where it is new.
+    fn intern_lent(&mut self, term: &TermRef<'_>) -> Result<u32, NoMemory>
+        requires { length self.old < 2 ^ 32 - 1 }
         ensures place { IfOk result (λ place. slice_get self.new place ≡ Some term.now) }
         ensures ok { OnOk result (self.new ≡ with_term self.old term.now) }
         ensures err { OnErr result (self.new ≡ self.old) }
         ensures distinct { AreDistinct self.new }
     {
-        if let Some(place) = self.index.find(&self.terms, hash, term) {
+        let count = self.terms.len();
+        if let Some(place) = self.marks.enter(&self.terms, term)? {
             return Ok(place);
         }
-        let place = self.terms.len() as u32;
-        self.terms.push(term)?;
-        match self.index.add(hash, place) {
-            Ok(()) => Ok(place),
+        match self.terms.push(term) {
+            Ok(()) => Ok(count as u32),
             Err(error) => {
-                self.terms.truncate(place as usize);
+                // The term stays out, and so does its mark.
+                self.marks.truncate(count);
                 Err(error)
             }
         }
     }
 
-    // The number of this term, whose hash is given. It is looked for at one place first.
+    // The number of this term. It is looked for at one place first.
     #[inline]
-    fn intern_likely(&mut self, likely: u32, hash: u32, term: &TermRef<'_>) -> Result<u32, NoMemory>
-        requires few { length self.old < 2 ^ 32 - 1 }
-        requires hash { hash ≡ hash_of term.now }
+    fn intern_likely(&mut self, likely: u32, term: &TermRef<'_>) -> Result<u32, NoMemory>
+        requires { length self.old < 2 ^ 32 - 1 }
         ensures place { IfOk result (λ place. slice_get self.new place ≡ Some term.now) }
         ensures ok { OnOk result (self.new ≡ with_term self.old term.now) }
         ensures err { OnErr result (self.new ≡ self.old) }
@@ -108,7 +130,7 @@ impl Names {
         if at < self.terms.len() && self.terms.get(at).is_same(term) {
             return Ok(likely);
         }
-        self.intern_hashed(hash, term)
+        self.intern_lent(term)
     }
 
     /// The numbers of these terms, in their order. Those that are no names yet become names one after another, as by
@@ -123,11 +145,10 @@ impl Names {
         ensures distinct { AreDistinct self.new }
     {
         let alloc = self.alloc;
-        let hashes = hashes_of(alloc, terms)?;
-        let likely = likely_places(alloc, &self.index, &self.terms, &hashes, terms)?;
+        let likely = likely_places(alloc, &self.marks, &self.terms, terms)?;
         let mut numbers = Vec::with_capacity(alloc, terms.len())?;
         for at in 0..terms.len() {
-            let number = self.intern_likely(likely[at], hashes[at], &terms.get(at))?;
+            let number = self.intern_likely(likely[at], &terms.get(at))?;
             numbers.push(number)?;
         }
         Ok(numbers)
@@ -140,8 +161,7 @@ impl Names {
         ensures present { IsSome result ↔ Contains self.now term.now }
         ensures absent { IsNone result ↔ (Contains self.now term.now → ⊥) }
     {
-        let lent = TermRef::of(term);
-        self.index.find(&self.terms, hash_of(&lent), &lent)
+        self.marks.find(&self.terms, &TermRef::of(term))
     }
 
     /// The term with this number.
@@ -170,6 +190,6 @@ impl Names {
         ensures others { IfOk result (λ numbers. (n : ℕ) → n < length self.now →
             ¬ (IsLiteralAt self.now n) → slice_index numbers.items n ≡ n) }
     {
-        folds(self.alloc, &self.terms)
+        folds(self.alloc, self.marks.hasher(), &self.terms)
     }
 }

@@ -1,4 +1,5 @@
 use crate::dir_shelf::read_some;
+use crate::retries::tried;
 use crate::{DirShelf, Failed, Shelf};
 use gk_base::Text;
 use std::alloc::Global;
@@ -64,6 +65,51 @@ fn a_failed_find_leaves_the_file_before(rt: HostRuntime) -> Result<(), Fail> {
     Ok(())
 }
 
+#[test]
+fn each_find_turns_to_the_first_byte_of_its_file(rt: HostRuntime) -> Result<(), Fail> {
+    let (one, two) = ("gk_io_find_one_test.tmp", "gk_io_find_two_test.tmp");
+    fs::write(&rt, one, "first file")?;
+    fs::write(&rt, two, "second")?;
+    let mut shelf = DirShelf::new(&rt);
+    for (path, content) in [
+        (one, b"first file".as_slice()),
+        (two, b"second"),
+        (two, b"second"),
+        (one, b"first file"),
+    ] {
+        shelf.find(name(rt.alloc(), path.as_bytes())?)?;
+        let mut front = [0; 3];
+        assert_eq!(rt; shelf.read(&mut front), Ok(3));
+        assert!(rt; content.starts_with(&front), "{path}");
+        shelf.find(name(rt.alloc(), path.as_bytes())?)?;
+        assert_eq!(rt;
+            rest_of(rt.alloc(), &mut shelf)?.as_slice(),
+            content,
+            "{path}"
+        );
+    }
+    fs::remove_file(&rt, one)?;
+    fs::remove_file(&rt, two)?;
+    Ok(())
+}
+
+#[test]
+fn guesses_a_size_and_a_seed(rt: HostRuntime) -> Result<(), Fail> {
+    let path = "gk_io_guesses_test.tmp";
+    fs::write(&rt, path, "content")?;
+    let mut shelf = DirShelf::new(&rt);
+    assert_eq!(rt; shelf.size_hint(), 0, "nothing was found so far");
+    shelf.find(name(rt.alloc(), path.as_bytes())?)?;
+    assert_eq!(rt; shelf.size_hint(), 7);
+    fs::remove_file(&rt, path)?;
+    let (one, two) = (shelf.hash_seed(), shelf.hash_seed());
+    assert!(rt;
+        one.is_some() && two.is_some() && one != two,
+        "two seeds of 64 random bits"
+    );
+    Ok(())
+}
+
 /// A reader of zeros, each of whose calls is interrupted so often before it is answered.
 #[derive(Drop)]
 struct SlowReader {
@@ -90,4 +136,21 @@ fn tries_an_interrupted_read_again(rt: HostRuntime) {
             "{interruptions}"
         );
     }
+}
+
+#[test]
+fn tries_an_interrupted_call_again(rt: HostRuntime) {
+    for (interruptions, answer) in [(0, Ok(7)), (1000, Ok(7)), (1001, Err(Failed))] {
+        let mut left: u32 = interruptions;
+        let answered = tried(|| {
+            if left > 0 {
+                left -= 1;
+                return Err(io::Error::from(ErrorKind::Interrupted));
+            }
+            Ok(7)
+        });
+        assert_eq!(rt; answered, answer, "{interruptions}");
+    }
+    let refused: Result<u8, Failed> = tried(|| Err(io::Error::from(ErrorKind::NotFound)));
+    assert_eq!(rt; refused, Err(Failed));
 }
