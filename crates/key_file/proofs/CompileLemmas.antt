@@ -16,21 +16,21 @@ use Rattle.key_file.specs.declared.edge.KeyEdge.{KeyEdge}
 use Rattle.key_file.specs.KeyShape.{KeyShape}
 use Rattle.key_file.specs.Key.{IsKey}
 use Rattle.key_file.specs.KeyFile.{IsKeyFile}
-use Rattle.key_file.specs.Compile.{slot_terms, terms_of, key_terms, slot_of, edge_of, shape_of, HasGrown}
+use Rattle.key_file.specs.Compile.{slot_terms, terms_of_key, key_terms, slot_of, numbered_edge, shape_of, HasMoreNames}
 use Rattle.key_file.proofs.KeyLemmas.{key_facts}
 
 -- the names grow at their end
-pub HasGrown-none : (names : List Term) → HasGrown names names
+pub HasGrown-none : (names : List Term) → HasMoreNames names names
 HasGrown-none names = ([], sym (append-nil names))
 
-pub HasGrown-more : (a b c : List Term) → HasGrown a b → HasGrown b c → HasGrown a c
+pub HasGrown-more : (a b c : List Term) → HasMoreNames a b → HasMoreNames b c → HasMoreNames a c
 HasGrown-more a b c f g = (f.0 ++ g.0, g.1 ∙ ap (λ l. l ++ g.0) f.1 ∙ append_assoc a f.0 g.0)
 
-grown_by : (names : List Term) (t : Term) (b : Bool) → is_named names t ≡ b → HasGrown names (with_term names t)
+grown_by : (names : List Term) (t : Term) (b : Bool) → is_named names t ≡ b → HasMoreNames names (with_term names t)
 grown_by names t true h = ([], with_term-named names t h ∙ sym (append-nil names))
 grown_by names t false h = (t ∷ [], with_term-new names t h)
 
-pub HasGrown-with_term : (names : List Term) (t : Term) → HasGrown names (with_term names t)
+pub HasGrown-with_term : (names : List Term) (t : Term) → HasMoreNames names (with_term names t)
 HasGrown-with_term names t = grown_by names t (is_named names t) refl
 
 -- the place of a term that was just numbered
@@ -65,7 +65,7 @@ slot_stays names later (Value name) kept = refl
 slot_stays names later (Folded name) kept = refl
 slot_stays names later (Fixed constant) kept = ap node.Fixed (kept 0 constant refl)
 
-pub edge_stays : (names later : List Term) (e : KeyEdge) → AreKept names later (e.pred ∷ []) → edge_of later e ≡ edge_of names e
+pub edge_stays : (names later : List Term) (e : KeyEdge) → AreKept names later (e.pred ∷ []) → numbered_edge later e ≡ numbered_edge names e
 edge_stays names later e kept = let same = kept 0 e.pred refl in λ i. record { from = e.from; pred = same i; to = e.to }
 
 -- the predicates of edges
@@ -113,10 +113,10 @@ room_more terms start names xs i x room within is so_far fits =
     omega arith
 
 -- a key stays what it is
-pub shape_stays : (names later : List Term) (key : KeyShape) → AreKept names later (terms_of key) → shape_of later key ≡ shape_of names key
+pub shape_stays : (names later : List Term) (key : KeyShape) → AreKept names later (terms_of_key key) → shape_of later key ≡ shape_of names key
 shape_stays names later key kept =
     let slots = map_stays slot_of slot_terms slot_stays names later key.slots (left_stay names later (flat_map slot_terms key.slots) (map (λ (e : KeyEdge). e.pred) key.edges) kept) in
-    let edges = map_stays edge_of (λ (e : KeyEdge). e.pred ∷ []) edge_stays names later key.edges
+    let edges = map_stays numbered_edge (λ (e : KeyEdge). e.pred ∷ []) edge_stays names later key.edges
     (subst (AreKept names later) (sym (predicates key.edges)) (right_stay names later (flat_map slot_terms key.slots) (map (λ (e : KeyEdge). e.pred) key.edges) kept)) in
     λ i. record { slots = slots i; edges = edges i }
 
@@ -128,7 +128,7 @@ one_each (Value name) = omega arith
 one_each (Folded name) = omega arith
 one_each (Fixed constant) = omega arith
 
-few_of_key : (key : KeyShape) → IsKey key → length (terms_of key) ≤ 48
+few_of_key : (key : KeyShape) → IsKey key → length (terms_of_key key) ≤ 48
 few_of_key key valid =
     let facts = key_facts key valid in
     let few_slots = facts.few_slots in
@@ -142,6 +142,6 @@ few_of_key key valid =
 pub few_terms : (keys : List KeyShape) → IsKeyFile keys → length (key_terms keys) ≤ 64 * 48
 few_terms keys valid =
     let few = valid.few in
-    let all = length-flat_map terms_of keys in
-    let sum = sum_by-le (λ k. length (terms_of k)) 48 keys (λ k d l. few_of_key (get_or keys k d) (valid.valid k d l)) in
+    let all = length-flat_map terms_of_key keys in
+    let sum = sum_by-le (λ k. length (terms_of_key k)) 48 keys (λ k d l. few_of_key (get_or keys k d) (valid.valid k d l)) in
     omega arith

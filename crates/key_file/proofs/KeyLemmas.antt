@@ -20,7 +20,7 @@ use Rattle.key_file.specs.declared.slot.KeySlot.TheVariants.{Entity, Any, Value,
 use Rattle.key_file.specs.declared.edge.KeyEdge.{KeyEdge}
 use Rattle.key_file.specs.KeyShape.{KeyShape}
 use Rattle.key_file.specs.KeyFile.{has_name, IsKeyFile}
-use Rattle.key_file.specs.Key.{is_entity, is_subject, same_slot, same_edge, all_differ, is_used, outline, is_connected, IsKey, KeyFacts}
+use Rattle.key_file.specs.Key.{is_entity_variable, may_be_subject, same_slot, same_key_edge, all_differ, is_used, outline, is_connected, IsKey, KeyFacts}
 
 -- tests that pass
 pub both : (x y : Bool) → x ≡ true → y ≡ true → (x && y) ≡ true
@@ -53,7 +53,7 @@ pairs_differ same (x ∷ xs) pairs =
     (pairs_differ same xs (λ i j d l m. pairs (suc i) (suc j) d (omega arith) (omega arith)))
 
 -- edges that the test calls the same are equal
-same_edge-true : (e f : KeyEdge) → same_edge e f ≡ true → e ≡ f
+same_edge-true : (e f : KeyEdge) → same_key_edge e f ≡ true → e ≡ f
 same_edge-true e f h =
     let outer = and_parts (e.from == f.from && e.to == f.to) (same_term e.pred f.pred) h in
     let ends = and_parts (e.from == f.from) (e.to == f.to) outer.0 in
@@ -62,19 +62,19 @@ same_edge-true e f h =
     let pred : e.pred ≡ f.pred = same_term-true e.pred f.pred outer.1 in
     λ i. record { from = from i; pred = pred i; to = to i }
 
-pub same_edge-same : (e f : KeyEdge) → e.from ≡ f.from → e.pred ≡ f.pred → e.to ≡ f.to → same_edge e f ≡ true
+pub same_edge-same : (e f : KeyEdge) → e.from ≡ f.from → e.pred ≡ f.pred → e.to ≡ f.to → same_key_edge e f ≡ true
 same_edge-same e f from pred to =
     both (e.from == f.from && e.to == f.to) (same_term e.pred f.pred)
     (both (e.from == f.from) (e.to == f.to) (eq-eqb e.from f.from from) (eq-eqb e.to f.to to))
     (subst (λ t. same_term e.pred t ≡ true) pred (same_term-refl e.pred))
 
-edges_apart : (e f : KeyEdge) → same_edge e f ≡ false → e ≢ f
+edges_apart : (e f : KeyEdge) → same_key_edge e f ≡ false → e ≢ f
 edges_apart e f h same = true≢false (sym (same_edge-same e f (ap (λ (x : KeyEdge). x.from) same) (ap (λ (x : KeyEdge). x.pred) same) (ap (λ (x : KeyEdge). x.to) same)) ∙ h)
 
-pub apart_edges : (e f : KeyEdge) → e ≢ f → same_edge e f ≡ false
-apart_edges e f differ = fails (same_edge e f) (λ h. differ (same_edge-true e f h))
+pub apart_edges : (e f : KeyEdge) → e ≢ f → same_key_edge e f ≡ false
+apart_edges e f differ = fails (same_key_edge e f) (λ h. differ (same_edge-true e f h))
 
-entity_of : (o : Option KeySlot) → is_entity o ≡ true → (name : List ℕ) × (type : Term) × (o ≡ Some (Entity name type))
+entity_of : (o : Option KeySlot) → is_entity_variable o ≡ true → (name : List ℕ) × (type : Term) × (o ≡ Some (Entity name type))
 entity_of None h = absurd (cc)
 entity_of (Some (Entity name type)) h = (name, type, refl)
 entity_of (Some (Any name type)) h = absurd (cc)
@@ -121,7 +121,7 @@ key_facts key h =
       slots_differ = differ_pairs same_slot key.slots g.1;
       some_edges = ltb-true 0 (length key.edges) f.1;
       few_edges = leb-true (length key.edges) 32 e.1;
-      edges_differ = λ i j x l m. edges_apart (get_or key.edges i x) (get_or key.edges j x) (differ_pairs same_edge key.edges d.1 i j x l m);
+      edges_differ = λ i j x l m. edges_apart (get_or key.edges i x) (get_or key.edges j x) (differ_pairs same_key_edge key.edges d.1 i j x l m);
       ends = λ k x l. let r = and_parts _ _ (AllPass-from_list_all _ key.edges c.1 k x l) in (r.1, ltb-true (get_or key.edges k x).to (length key.slots) r.0);
       used = λ s l. subst (λ n. is_used key.edges n ≡ true) (get_or-range_with_len 0 (length key.slots) s 0 l ∙ omega arith)
           (AllPass-from_list_all (is_used key.edges) (range_with_len 0 (length key.slots)) b.1 s 0 (let n = length-range_with_len 0 (length key.slots) in omega arith));
@@ -131,9 +131,9 @@ key_facts key h =
 -- the facts pass the test
 pub facts_key : (key : KeyShape) → KeyFacts key → IsKey key
 facts_key key facts =
-    let is_first : is_entity (slice_get key.slots 0) ≡ true = ap is_entity facts.first.2 in
-    let ends : list_all (λ e. nat_lt e.to (length key.slots) && is_subject (slice_get key.slots e.from)) key.edges ≡ true =
-    list_all-from_AllPass (λ e. nat_lt e.to (length key.slots) && is_subject (slice_get key.slots e.from)) key.edges
+    let is_first : is_entity_variable (slice_get key.slots 0) ≡ true = ap is_entity_variable facts.first.2 in
+    let ends : list_all (λ e. nat_lt e.to (length key.slots) && may_be_subject (slice_get key.slots e.from)) key.edges ≡ true =
+    list_all-from_AllPass (λ e. nat_lt e.to (length key.slots) && may_be_subject (slice_get key.slots e.from)) key.edges
     (λ k x l. let r = facts.ends k x l in both _ _ (lt-ltb (get_or key.edges k x).to (length key.slots) r.1) r.0) in
     let used : list_all (is_used key.edges) (range_with_len 0 (length key.slots)) ≡ true =
     list_all-from_AllPass (is_used key.edges) (range_with_len 0 (length key.slots))
@@ -146,7 +146,7 @@ facts_key key facts =
     (pairs_differ same_slot key.slots facts.slots_differ))
     (lt-ltb 0 (length key.edges) facts.some_edges))
     (le-leb (length key.edges) 32 facts.few_edges))
-    (pairs_differ same_edge key.edges (λ i j x l m. apart_edges (get_or key.edges i x) (get_or key.edges j x) (facts.edges_differ i j x l m))))
+    (pairs_differ same_key_edge key.edges (λ i j x l m. apart_edges (get_or key.edges i x) (get_or key.edges j x) (facts.edges_differ i j x l m))))
     ends)
     used)
     connected

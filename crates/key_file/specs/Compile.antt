@@ -21,12 +21,12 @@ slot_terms (Folded name) = []
 slot_terms (Fixed constant) = constant ∷ []
 
 -- the terms of a key in the order in which they are numbered: each slot's type or constant, then each edge's predicate
-abbrev pub terms_of : KeyShape → List Term
-terms_of key = flat_map slot_terms key.slots ++ map (λ e. e.pred) key.edges
+abbrev pub terms_of_key : KeyShape → List Term
+terms_of_key key = flat_map slot_terms key.slots ++ map (λ e. e.pred) key.edges
 
 -- the terms of keys, key by key (this project's own order)
 abbrev pub key_terms : List KeyShape → List Term
-key_terms keys = flat_map terms_of keys
+key_terms keys = flat_map terms_of_key keys
 
 -- a slot with the numbers of its terms
 abbrev pub slot_of : List Term → KeySlot → Slot
@@ -37,17 +37,17 @@ slot_of names (Folded name) = node.Folded
 slot_of names (Fixed constant) = node.Fixed (place_of names constant)
 
 -- an edge with the number of its predicate
-abbrev pub edge_of : List Term → KeyEdge → Edge
-edge_of names e = record { from = e.from; pred = place_of names e.pred; to = e.to }
+abbrev pub numbered_edge : List Term → KeyEdge → Edge
+numbered_edge names e = record { from = e.from; pred = place_of names e.pred; to = e.to }
 
 -- a key's pattern: its terms are numbers, and its names are gone
 abbrev pub shape_of : List Term → KeyShape → Shape
-shape_of names key = record { slots = map (slot_of names) key.slots; edges = map (edge_of names) key.edges }
+shape_of names key = record { slots = map (slot_of names) key.slots; edges = map (numbered_edge names) key.edges }
 
 -- the patterns of keys, in the keys' order
 abbrev pub patterns_of : List Term → List KeyShape → List Shape
 patterns_of names keys = map (shape_of names) keys
 
 -- the names and some more behind them
-abbrev pub HasGrown : List Term → List Term → Type 0
-HasGrown names more = (rest : List Term) × (more ≡ names ++ rest)
+abbrev pub HasMoreNames : List Term → List Term → Type 0
+HasMoreNames names more = (rest : List Term) × (more ≡ names ++ rest)

@@ -12,22 +12,22 @@ use Rattle.key_file.specs.declared.edge.KeyEdge.{KeyEdge}
 use Rattle.key_file.specs.KeyShape.{KeyShape}
 
 -- an entity variable
-abbrev pub is_entity : Option KeySlot → Bool
-is_entity (Some (Entity name type)) = true
-is_entity (Some (Any name type)) = false
-is_entity (Some (Value name)) = false
-is_entity (Some (Folded name)) = false
-is_entity (Some (Fixed constant)) = false
-is_entity None = false
+abbrev pub is_entity_variable : Option KeySlot → Bool
+is_entity_variable (Some (Entity name type)) = true
+is_entity_variable (Some (Any name type)) = false
+is_entity_variable (Some (Value name)) = false
+is_entity_variable (Some (Folded name)) = false
+is_entity_variable (Some (Fixed constant)) = false
+is_entity_variable None = false
 
 -- a slot that may be the subject of a triple: an entity variable or a wildcard
-abbrev pub is_subject : Option KeySlot → Bool
-is_subject (Some (Entity name type)) = true
-is_subject (Some (Any name type)) = true
-is_subject (Some (Value name)) = false
-is_subject (Some (Folded name)) = false
-is_subject (Some (Fixed constant)) = false
-is_subject None = false
+abbrev pub may_be_subject : Option KeySlot → Bool
+may_be_subject (Some (Entity name type)) = true
+may_be_subject (Some (Any name type)) = true
+may_be_subject (Some (Value name)) = false
+may_be_subject (Some (Folded name)) = false
+may_be_subject (Some (Fixed constant)) = false
+may_be_subject None = false
 
 -- The same variable or the same constant (this project's own). Entity variables, wildcards and value variables have
 -- names of their own; a value variable is the same whether it is folded or not.
@@ -42,8 +42,8 @@ same_slot (Fixed c) (Fixed d) = same_term c d
 same_slot s t = false
 
 -- the same triple of slots and predicate
-abbrev pub same_edge : KeyEdge → KeyEdge → Bool
-same_edge e f = e.from == f.from && e.to == f.to && same_term e.pred f.pred
+abbrev pub same_key_edge : KeyEdge → KeyEdge → Bool
+same_key_edge e f = e.from == f.from && e.to == f.to && same_term e.pred f.pred
 
 -- no element is the same as one after it
 abbrev pub all_differ : {X : Type 0} → (X → X → Bool) → List X → Bool
@@ -71,9 +71,9 @@ is_connected count edges = list_all (λ m. m) (marks (outline count edges) count
 -- edges between slots, each from an entity variable or a wildcard. Each slot stands on an edge, and the key is connected.
 abbrev pub is_key : KeyShape → Bool
 is_key key =
-    is_entity (slice_get key.slots 0) && nat_le (length key.slots) 16 && all_differ same_slot key.slots
-    && nat_lt 0 (length key.edges) && nat_le (length key.edges) 32 && all_differ same_edge key.edges
-    && list_all (λ e. nat_lt e.to (length key.slots) && is_subject (slice_get key.slots e.from)) key.edges
+    is_entity_variable (slice_get key.slots 0) && nat_le (length key.slots) 16 && all_differ same_slot key.slots
+    && nat_lt 0 (length key.edges) && nat_le (length key.edges) 32 && all_differ same_key_edge key.edges
+    && list_all (λ e. nat_lt e.to (length key.slots) && may_be_subject (slice_get key.slots e.from)) key.edges
     && list_all (is_used key.edges) (range_with_len 0 (length key.slots))
     && is_connected (length key.slots) key.edges
 
@@ -88,6 +88,6 @@ pub record KeyFacts (key : KeyShape) : Type 0 where
   pub some_edges : 0 < length key.edges
   pub few_edges : length key.edges ≤ 32
   pub edges_differ : AllPairs (λ e f. e ≢ f) key.edges
-  pub ends : All (λ e. IsTrue (is_subject (slice_get key.slots e.from)) × (e.to < length key.slots)) key.edges
+  pub ends : All (λ e. IsTrue (may_be_subject (slice_get key.slots e.from)) × (e.to < length key.slots)) key.edges
   pub used : (slot : ℕ) → slot < length key.slots → IsTrue (is_used key.edges slot)
   pub connected : AllWithin (outline (length key.slots) key.edges) (length key.slots)

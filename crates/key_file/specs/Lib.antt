@@ -3,3 +3,4 @@ pub mod Key
 pub mod Walks
 pub mod KeyFile
 pub mod Compile
+pub mod Numbered

@@ -3,7 +3,7 @@
 ghost use Rattle.std.specs.Prelude.{◌≡◌, ◌+◌, ◌-◌, ◌<◌, ◌^◌, length, map, IfOk, OnOk};
 ghost use Rattle.std.specs.List.{flat_map};
 ghost use Rattle.term_table.specs.Numbering.{with_term, with_terms, place_of, AreDistinct};
-ghost use Rattle.key_file.specs.Compile.{slot_terms, terms_of, key_terms, slot_of, edge_of, shape_of, patterns_of, HasGrown};
+ghost use Rattle.key_file.specs.Compile.{slot_terms, terms_of_key, key_terms, slot_of, numbered_edge, shape_of, patterns_of, HasMoreNames};
 
 use crate::{KeyDef, KeyEdge, KeyFile, KeySlot};
 use chase_laws::{Edge, Pattern, Slot};
@@ -16,7 +16,7 @@ fn number(term: &Term, names: &mut Names) -> Result<u32, NoMemory>
     requires room { length names.old < 2 ^ 32 - 1 }
     ensures names { OnOk result (names.new ≡ with_term names.old term.now) }
     ensures number { IfOk result (λ n. n ≡ place_of names.new term.now) }
-    ensures grown { HasGrown names.old names.new }
+    ensures grown { HasMoreNames names.old names.new }
 {
     let number = names.intern(term.copy()?)?;
     Ok(number)
@@ -27,7 +27,7 @@ fn slot(slot: &KeySlot, names: &mut Names) -> Result<Slot, NoMemory>
     requires room { length names.old + length (slot_terms slot.now) < 2 ^ 32 - 1 }
     ensures names { OnOk result (names.new ≡ with_terms names.old (slot_terms slot.now)) }
     ensures slot { IfOk result (λ s. s ≡ slot_of names.new slot.now) }
-    ensures grown { HasGrown names.old names.new }
+    ensures grown { HasMoreNames names.old names.new }
 {
     Ok(match slot {
         KeySlot::Entity(_, kind) => Slot::Entity(number(kind, names)?),
@@ -43,7 +43,7 @@ fn slots(alloc: Global, slots: &[KeySlot], names: &mut Names) -> Result<Vec<Slot
     requires room { length names.old + length (flat_map slot_terms slots.now) < 2 ^ 32 - 1 }
     ensures names { OnOk result (names.new ≡ with_terms names.old (flat_map slot_terms slots.now)) }
     ensures slots { IfOk result (λ made. made.items ≡ map (slot_of names.new) slots.now) }
-    ensures grown { HasGrown names.old names.new }
+    ensures grown { HasMoreNames names.old names.new }
 {
     let mut made = Vec::with_capacity(alloc, slots.len())?;
     for part in slots {
@@ -56,8 +56,8 @@ fn slots(alloc: Global, slots: &[KeySlot], names: &mut Names) -> Result<Vec<Slot
 fn edges(alloc: Global, edges: &[KeyEdge], names: &mut Names) -> Result<Vec<Edge>, NoMemory>
     requires room { length names.old + length edges.now < 2 ^ 32 - 1 }
     ensures names { OnOk result (names.new ≡ with_terms names.old (map (λ e. e.pred) edges.now)) }
-    ensures edges { IfOk result (λ made. made.items ≡ map (edge_of names.new) edges.now) }
-    ensures grown { HasGrown names.old names.new }
+    ensures edges { IfOk result (λ made. made.items ≡ map (numbered_edge names.new) edges.now) }
+    ensures grown { HasMoreNames names.old names.new }
 {
     let mut made = Vec::with_capacity(alloc, edges.len())?;
     for edge in edges {
@@ -73,10 +73,10 @@ fn edges(alloc: Global, edges: &[KeyEdge], names: &mut Names) -> Result<Vec<Edge
 
 /// The pattern of a key, whose terms become names.
 fn pattern(alloc: Global, key: &KeyDef, names: &mut Names) -> Result<Pattern, NoMemory>
-    requires room { length names.old + length (terms_of key.now) < 2 ^ 32 - 1 }
-    ensures names { OnOk result (names.new ≡ with_terms names.old (terms_of key.now)) }
+    requires room { length names.old + length (terms_of_key key.now) < 2 ^ 32 - 1 }
+    ensures names { OnOk result (names.new ≡ with_terms names.old (terms_of_key key.now)) }
     ensures pattern { IfOk result (λ pattern. pattern ≡ shape_of names.new key.now) }
-    ensures grown { HasGrown names.old names.new }
+    ensures grown { HasMoreNames names.old names.new }
 {
     let slots = slots(alloc, &key.slots, names)?;
     let edges = edges(alloc, &key.edges, names)?;
@@ -88,7 +88,7 @@ fn all_patterns(alloc: Global, keys: &[KeyDef], names: &mut Names) -> Result<Vec
     requires room { length names.old + length (key_terms keys.now) < 2 ^ 32 - 1 }
     ensures names { OnOk result (names.new ≡ with_terms names.old (key_terms keys.now)) }
     ensures patterns { IfOk result (λ patterns. patterns.items ≡ patterns_of names.new keys.now) }
-    ensures grown { HasGrown names.old names.new }
+    ensures grown { HasMoreNames names.old names.new }
 {
     let mut patterns = Vec::with_capacity(alloc, keys.len())?;
     for key in keys {
@@ -111,7 +111,7 @@ pub fn compile(alloc: Global, keys: &KeyFile, names: &mut Names) -> Result<Vec<P
     requires room { length names.old + length (key_terms keys.now) < 2 ^ 32 - 1 }
     ensures names { OnOk result (names.new ≡ with_terms names.old (key_terms keys.now)) }
     ensures patterns { IfOk result (λ patterns. patterns.items ≡ patterns_of names.new keys.now) }
-    ensures grown { HasGrown names.old names.new }
+    ensures grown { HasMoreNames names.old names.new }
     ensures distinct { AreDistinct names.new }
 {
     let patterns = all_patterns(alloc, keys.keys(), names);

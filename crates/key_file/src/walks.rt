@@ -2,12 +2,13 @@
 
 ghost use Rattle.std.specs.Prelude.{List, IsTrue, ◌↔◌, ◌≡◌, ◌≤◌, false, slice_index_or};
 ghost use Rattle.std.specs.List.{list_all};
-ghost use Rattle.chase_laws.specs.Shape.{AllWithin};
+ghost use Rattle.chase_laws.specs.Shape.{IsConnected};
 ghost use Rattle.key_file.specs.declared.edge.KeyEdge.{KeyEdge};
 ghost use Rattle.key_file.specs.Key.{is_used, is_connected, outline};
 ghost use Rattle.key_file.specs.Walks.{AreMarks, IsMarked, IsPassed, AreWider};
 
 use crate::KeyEdge;
+use chase_laws::laws::law_pattern;
 
 /// Whether some edge has this slot as an end.
 pub fn is_used(edges: &[KeyEdge], slot: usize) -> bool
@@ -80,8 +81,9 @@ fn are_all(marks: &[bool]) -> bool
 pub fn is_connected(slots: usize, edges: &[KeyEdge]) -> bool
     requires { slots ≤ 16 }
     ensures test { result ≡ is_connected slots edges.now }
-    ensures walks { IsTrue result ↔ AllWithin (outline slots edges.now) slots }
+    ensures walks { IsTrue result ↔ IsConnected (outline slots edges.now) }
 {
+    law_pattern();
     let mut marks = first_marks(slots);
     for _walk in 0..slots {
         marks = wider_marks(&marks, slots, edges);

@@ -12,7 +12,7 @@ use Rattle.nt_lex.specs.Spelling.{Spells}
 use Rattle.nt_lex.specs.Reading.{Says, TermStops}
 use Rattle.key_lang.specs.declared.fault.KeyFault.{KeyFault}
 use Rattle.key_lang.specs.Answers.{yes, reads}
-use Rattle.key_lang.specs.Tokens.{Skipping, is_word_byte, WithWord, Closes, is_name_byte, is_name, TermSays}
+use Rattle.key_lang.specs.Tokens.{Skipping, is_word_byte, WithWord, Closes, is_name_byte, is_name, TokenSays}
 
 -- the line has this text from this place on
 pub record At (line : List ℕ) (at : ℕ) (rest : List ℕ) : Type 0 where
@@ -70,7 +70,7 @@ says_close line at Says answer a says = record {
 
 -- a term with its canonical spelling
 pub says_term : (begins : ℕ → Bool) (expected : KeyFault) (line : List ℕ) (at b : ℕ) (piece more rest : List ℕ) (t : Term) (s : Spells piece t) → TermStops s rest
-    → piece ≡ b ∷ more → begins b ≡ true → At line at (piece ++ rest) → TermSays begins expected line at (Ok (t, at + length piece))
+    → piece ≡ b ∷ more → begins b ≡ true → At line at (piece ++ rest) → TokenSays begins expected line at (Ok (t, at + length piece))
 says_term begins expected line at b piece more rest t s stops first begin a =
     let whole : At line at (b ∷ (more ++ rest)) = subst (λ (l : List ℕ). At line at (l ++ rest)) first a in
     yes (ap begins (at_byte line at b (more ++ rest) whole) ∙ begin)

@@ -11,7 +11,7 @@ use Rattle.term_table.proofs.NumberingLemmas.{same_term-Decides, slice_get-appen
 use Rattle.key_file.specs.declared.slot.KeySlot.{KeySlot}
 use Rattle.key_file.specs.declared.slot.KeySlot.TheVariants.{Entity, Any, Value, Folded, Fixed}
 use Rattle.key_file.specs.KeyShape.{KeyShape}
-use Rattle.key_file.specs.Key.{is_entity, is_subject, same_slot}
+use Rattle.key_file.specs.Key.{is_entity_variable, may_be_subject, same_slot}
 use Rattle.key_file.specs.KeyFile.{has_name}
 use Rattle.key_lang.specs.declared.fault.KeyFault.TheVariants.{NameUsedTwice, VariableDeclaredTwice, TooManyNodes, TooManyTriplesInKey}
 use Rattle.key_lang.specs.declared.open_key.End.{End}
@@ -19,7 +19,7 @@ use Rattle.key_lang.specs.declared.open_key.End.TheVariants.{Variable, Constant}
 use Rattle.key_lang.specs.declared.open_key.OpenEdge.{OpenEdge}
 use Rattle.key_lang.specs.declared.open_key.Object.{Object}
 use Rattle.key_lang.specs.declared.open_key.Object.TheVariants.{Declared, Given}
-use Rattle.key_lang.specs.OpenKey.{OpenShape, KeyState, nodes, sigil_of, slot_name, is_named_so, begin, declare, same_end, same_triple, add, placed_at, placed, link}
+use Rattle.key_lang.specs.OpenKey.{OpenShape, KeyState, nodes, sigil_of, slot_name, is_named_so, begin, declare, same_end, same_triple, add, placed_at, placed_constant, link}
 use Rattle.key_lang.specs.Fair.{is_no_constant, leads, is_inside, IsFair, IsFairState}
 use Rattle.key_lang.proofs.GoodLemmas.{Good, good_if, good_led}
 use Rattle.key_lang.proofs.DifferLemmas.{differ_push}
@@ -65,7 +65,7 @@ module _ (key : OpenShape) (fair : IsFair key) where
   inside_variable : (slot : KeySlot) (e : OpenEdge) → is_inside key e ≡ true → is_inside (record key { variables = key.variables ++ slot ∷ [] }) e ≡ true
   inside_variable slot e p =
       let parts = and_parts _ _ p in
-      and_from _ _ (ap is_subject (slice_get-append key.variables (slot ∷ []) e.from (some_subject key.variables e.from parts.0)) ∙ parts.0) (leads_more e.to parts.1)
+      and_from _ _ (ap may_be_subject (slice_get-append key.variables (slot ∷ []) e.from (some_subject key.variables e.from parts.0)) ∙ parts.0) (leads_more e.to parts.1)
     where
       leads_more : (x : End) → leads key x ≡ true → leads (record key { variables = key.variables ++ slot ∷ [] }) x ≡ true
       leads_more (Variable a) q = let less = ltb-true _ _ q in lt-ltb _ _ (omega (arith, length-append key.variables (slot ∷ [])))
@@ -84,7 +84,7 @@ module _ (key : OpenShape) (fair : IsFair key) where
       good_if (IsFairAs key.name) (list_any (is_named_so (sigil_of slot) (slot_name slot)) key.variables) (Err VariableDeclaredTwice) (cond (nat_lt (nodes key) 16) (Ok grown) (Err TooManyNodes)) (λ _. tt) (λ new.
       good_if (IsFairAs key.name) (nat_lt (nodes key) 16) (Ok grown) (Err TooManyNodes) (λ room. (
         record {
-          first = ap is_entity (slice_get-append key.variables (slot ∷ []) 0 (some_first key.variables fair.first)) ∙ fair.first;
+          first = ap is_entity_variable (slice_get-append key.variables (slot ∷ []) 0 (some_first key.variables fair.first)) ∙ fair.first;
           few_nodes = let less = ltb-true _ _ room in omega (arith, length-append key.variables (slot ∷ []));
           variables = all_push is_no_constant key.variables slot fair.variables v;
           variables_differ = differ_push same_slot (is_named_so (sigil_of slot) (slot_name slot)) key.variables slot (named_apart slot) fair.variables_differ new;
@@ -129,7 +129,7 @@ module _ (key : OpenShape) (fair : IsFair key) where
           end_back (Constant a) (Variable b) h = absurd (true≢false (sym h))
 
   -- with a constant, which stands at this place
-  pub placed_fair : (term : Term) → Good (λ r. IsFairAs key.name r.0 × (r.1 < length r.0.constants) × (r.0.variables ≡ key.variables)) (placed key term)
+  pub placed_fair : (term : Term) → Good (λ r. IsFairAs key.name r.0 × (r.1 < length r.0.constants) × (r.0.variables ≡ key.variables)) (placed_constant key term)
   placed_fair term = by_place (position (same_term term) key.constants) refl
     where
       by_place : (o : Option ℕ) → position (same_term term) key.constants ≡ o
@@ -163,14 +163,14 @@ abbrev pub IsThere : OpenShape → Object → Type 0
 IsThere key (Declared place) = place < length key.variables
 IsThere key (Given term) = Unit {0}
 
-pub link_fair : (key : OpenShape) → IsFair key → (from : ℕ) (pred : Term) (object : Object) → is_subject (slice_get key.variables from) ≡ true → IsThere key object
+pub link_fair : (key : OpenShape) → IsFair key → (from : ℕ) (pred : Term) (object : Object) → may_be_subject (slice_get key.variables from) ≡ true → IsThere key object
     → Good (IsFairAs key.name) (link key from pred object)
 link_fair key fair from pred (Declared place) subject there = add_fair key fair (record { from = from; pred = pred; to = Variable place }) (and_from _ _ subject (lt-ltb _ _ there))
 link_fair key fair from pred (Given term) subject there =
-    good_led (placed key term) from pred (IsFairAs key.name) {Q = IsFairAs key.name} {variables = key.variables} (placed_fair key fair term) λ k place f below same.
-    add_to k place f.0 f.1 below (ap is_subject (ap (λ (l : List KeySlot). slice_get l from) same) ∙ subject)
+    good_led (placed_constant key term) from pred (IsFairAs key.name) {Q = IsFairAs key.name} {variables = key.variables} (placed_fair key fair term) λ k place f below same.
+    add_to k place f.0 f.1 below (ap may_be_subject (ap (λ (l : List KeySlot). slice_get l from) same) ∙ subject)
   where
-    add_to : (k : OpenShape) (place : ℕ) → IsFair k → k.name ≡ key.name → place < length k.constants → is_subject (slice_get k.variables from) ≡ true
+    add_to : (k : OpenShape) (place : ℕ) → IsFair k → k.name ≡ key.name → place < length k.constants → may_be_subject (slice_get k.variables from) ≡ true
         → Good (IsFairAs key.name) (add k (record { from = from; pred = pred; to = Constant place }))
     add_to k place f name below s = subst (λ n. Good (IsFairAs n) (add k (record { from = from; pred = pred; to = Constant place }))) name (add_fair k f (record { from = from; pred = pred; to = Constant place }) (and_from _ _ s (lt-ltb _ _ below)))
 

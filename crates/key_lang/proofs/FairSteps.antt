@@ -9,7 +9,7 @@ use Rattle.chase_laws.proofs.Lists.{slice_get-within}
 use Rattle.key_file.specs.declared.slot.KeySlot.{KeySlot}
 use Rattle.key_file.specs.declared.slot.KeySlot.TheVariants.{Entity, Any, Value, Folded, Fixed}
 use Rattle.key_file.specs.KeyShape.{KeyShape}
-use Rattle.key_file.specs.Key.{is_subject}
+use Rattle.key_file.specs.Key.{may_be_subject}
 use Rattle.key_file.specs.KeyFile.{has_name}
 use Rattle.key_lang.specs.declared.fault.KeyFault.{KeyFault}
 use Rattle.key_lang.specs.declared.fault.KeyFault.TheVariants.{BadName}
@@ -17,7 +17,7 @@ use Rattle.key_lang.specs.declared.keyword.Keyword.{Keyword}
 use Rattle.key_lang.specs.declared.keyword.Keyword.TheVariants as word
 use Rattle.key_lang.specs.Tokens.{Skipping, is_name, is_over}
 use Rattle.key_lang.specs.OpenKey.{OpenShape, KeyState, sigil_of, is_named_so}
-use Rattle.key_lang.specs.Statements.{KeySays, typed_slot, TypedSays, value_slot, ValueSays, found, declared_of, DeclaredSays, begins_subject, SubjectSays, ObjectSays, TripleSays, Changes, OutsideSays, InsideSays, WordSays, LinkSays, keyword_of, StatementSays, LineSays, no_text, text}
+use Rattle.key_lang.specs.Statements.{KeySays, typed_slot, TypedSays, slot_of_value, ValueSays, found, declared_of, DeclaredSays, begins_key_subject, KeySubjectSays, ObjectSays, TripleSays, Changes, OutsideSays, InsideSays, WordSays, LinkSays, keyword_of, StatementSays, KeyLineSays, no_text, text}
 use Rattle.key_lang.specs.Fair.{is_no_constant, IsFair, IsFairBeside, IsFairState}
 use Rattle.key_lang.proofs.GoodLemmas.{Good, Keeps, good_if, keeps_is, keeps_then, keeps_where, keeps_skip, keeps_word, keeps_close}
 use Rattle.key_lang.proofs.FairLemmas.{IsFairAs, declare_fair, IsThere, link_fair, begin_fair}
@@ -59,22 +59,22 @@ word_head line at end b more e = elim (cases_lt 0 (end - at)) [
     take_none : (n : ℕ) (xs : List ℕ) → n ≡ 0 → take n xs ≡ []
     take_none n xs z = ap (λ k. take k xs) z
 
-subject_slot : (s : KeySlot) (sigil : ℕ) → sigil_of s ≡ sigil → begins_subject sigil ≡ true → is_subject (Some s) ≡ true
+subject_slot : (s : KeySlot) (sigil : ℕ) → sigil_of s ≡ sigil → begins_key_subject sigil ≡ true → may_be_subject (Some s) ≡ true
 subject_slot (Entity a t) sigil e b = refl
 subject_slot (Any a t) sigil e b = refl
-subject_slot (Value a) sigil e b = absurd (true≢false (sym b ∙ ap begins_subject (sym e)))
-subject_slot (Folded a) sigil e b = absurd (true≢false (sym b ∙ ap begins_subject (sym e)))
-subject_slot (Fixed t) sigil e b = absurd (true≢false (sym b ∙ ap begins_subject (sym e)))
+subject_slot (Value a) sigil e b = absurd (true≢false (sym b ∙ ap begins_key_subject (sym e)))
+subject_slot (Folded a) sigil e b = absurd (true≢false (sym b ∙ ap begins_key_subject (sym e)))
+subject_slot (Fixed t) sigil e b = absurd (true≢false (sym b ∙ ap begins_key_subject (sym e)))
 
-subject_keeps : (key : OpenShape) (line : List ℕ) (at : ℕ) → Keeps (λ r. is_subject (slice_get key.variables r.0) ≡ true) (SubjectSays key line at)
+subject_keeps : (key : OpenShape) (line : List ℕ) (at : ℕ) → Keeps (λ r. may_be_subject (slice_get key.variables r.0) ≡ true) (KeySubjectSays key line at)
 subject_keeps key line at =
-    keeps_where P (begins_subject (get_or line at 0)) (DeclaredSays key line at) _
+    keeps_where P (begins_key_subject (get_or line at 0)) (DeclaredSays key line at) _
     (λ begins. keeps_word P line at _ (λ end run. keeps_is P _ (declared_good P key.variables (slice_range line at end) end
-    (λ sigil name place s w here is inside. ap is_subject here ∙ subject_slot s sigil is (ap begins_subject (sym (word_head line at end sigil name w)) ∙ begins)))))
+    (λ sigil name place s w here is inside. ap may_be_subject here ∙ subject_slot s sigil is (ap begins_key_subject (sym (word_head line at end sigil name w)) ∙ begins)))))
     (λ _. keeps_is P _ tt)
   where
     P : ℕ × ℕ → Type 0
-    P r = is_subject (slice_get key.variables r.0) ≡ true
+    P r = may_be_subject (slice_get key.variables r.0) ≡ true
 
 object_keeps : (key : OpenShape) (line : List ℕ) (at : ℕ) → Keeps (λ r. IsThere key r.0) (ObjectSays key line at)
 object_keeps key line at =
@@ -100,15 +100,15 @@ module _ (key : OpenShape) (fair : IsFair key) (line : List ℕ) (at : ℕ) wher
   value_keeps : (folded : Bool) → Keeps (IsFairAs key.name) (ValueSays folded key line at)
   value_keeps folded =
       keeps_then (IsFairAs key.name) _ _ (λ name _. keeps_close (IsFairAs key.name) line name.1 _
-      (keeps_is (IsFairAs key.name) _ (declare_fair key fair (value_slot folded name.0) (value_variable folded name.0))))
+      (keeps_is (IsFairAs key.name) _ (declare_fair key fair (slot_of_value folded name.0) (value_variable folded name.0))))
     where
-      value_variable : (folded : Bool) (name : List ℕ) → is_no_constant (value_slot folded name) ≡ true
+      value_variable : (folded : Bool) (name : List ℕ) → is_no_constant (slot_of_value folded name) ≡ true
       value_variable true name = refl
       value_variable false name = refl
 
   triple_keeps : Keeps (IsFairAs key.name) (TripleSays key line at)
   triple_keeps =
-      keeps_then (IsFairAs key.name) (SubjectSays key line at) _ (λ from subject. keeps_then (IsFairAs key.name) _ _ (λ pred _.
+      keeps_then (IsFairAs key.name) (KeySubjectSays key line at) _ (λ from subject. keeps_then (IsFairAs key.name) _ _ (λ pred _.
       keeps_then (IsFairAs key.name) (Skipping line pred.1 (ObjectSays key line)) _ (λ to object. keeps_close (IsFairAs key.name) line to.1 _ (keeps_is (IsFairAs key.name) _
       (link_fair key fair from.0 pred.0 to.0 (subject_keeps key line at (Ok from) subject)
       (keeps_skip (λ r. IsThere key r.0) line pred.1 (ObjectSays key line) (λ n. object_keeps key line n) (Ok to) object))))))
@@ -150,7 +150,7 @@ link_keeps keys None fair line at = keeps_is IsFairState _ tt
 link_keeps keys (Some key) fair line at = changes_keeps keys key fair _ (triple_keeps key fair.fair line at)
 
 -- each good line
-pub line_keeps : (state : KeyState) → IsFairState state → (line : List ℕ) → Keeps IsFairState (LineSays state line)
+pub line_keeps : (state : KeyState) → IsFairState state → (line : List ℕ) → Keeps IsFairState (KeyLineSays state line)
 line_keeps state fair line answer (no_text n) = tt
 line_keeps state fair line answer (text u s) =
     keeps_skip IsFairState line 0 _ (λ at. keeps_where IsFairState (is_over line at) _ (StatementSays state line at) (λ _. keeps_is IsFairState _ fair) (λ _.

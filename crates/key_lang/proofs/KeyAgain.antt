@@ -17,7 +17,7 @@ use Rattle.key_lang.specs.declared.open_key.OpenEdge.{OpenEdge}
 use Rattle.key_lang.specs.Answers.{Is, goes_on, yes}
 use Rattle.key_lang.specs.Tokens.{is_name}
 use Rattle.key_lang.specs.OpenKey.{OpenShape, KeyState, nodes, sigil_of, slot_name, is_named_so, declare, key_edge, whole, finish}
-use Rattle.key_lang.specs.Statements.{LineSays}
+use Rattle.key_lang.specs.Statements.{KeyLineSays}
 use Rattle.key_lang.specs.KeyText.{LinesSay, none, good}
 use Rattle.key_lang.specs.Fair.{is_no_constant, IsFair}
 use Rattle.key_lang.specs.CanonicalKeys.{declaration_text, triple_line, first_line, key_text}
@@ -58,7 +58,7 @@ abbrev at_declared : List KeyShape → List ℕ → List KeySlot → KeyState
 at_declared keys name variables = record { keys = keys; current = Some (declared name variables) }
 
 declare_line : (keys : List KeyShape) (key next : OpenShape) (slot : KeySlot) → GoodSlot slot → declare key slot ≡ Ok next
-    → LineSays (record { keys = keys; current = Some key }) (declaration_content slot) (Ok (record { keys = keys; current = Some next }))
+    → KeyLineSays (record { keys = keys; current = Some key }) (declaration_content slot) (Ok (record { keys = keys; current = Some next }))
 declare_line keys key next (Entity name type) g d =
     word_line _ _ 101 (codes "ntity") (0x20 ∷ ((0x3F ∷ name) ++ 0x20 ∷ term_text type)) (Some word.Entity) (text_declaration (Entity name type) g) refl refl refl refl refl refl
     (goes_on {x = next} (typed_says 0x3F key next _ 6 name type refl refl g.0 g.1 (at_more (declaration_content (Entity name type)) 0 (codes "entity") _ (at_first _)) d) refl)
@@ -99,14 +99,14 @@ module _ (keys : List KeyShape) (key : OpenShape) (fair : IsFair key) (s : IsSpe
   slots = subst (AllOf GoodSlot) (sym s.variables) ((refl, s.iri), s.slots)
 
   first_says : length keys < 64 → has_name keys key.name ≡ false
-      → LineSays (record { keys = keys; current = None }) (first_content key.name s.type) (Ok (at_declared keys key.name (Entity (codes "x") s.type ∷ [])))
+      → KeyLineSays (record { keys = keys; current = None }) (first_content key.name s.type) (Ok (at_declared keys key.name (Entity (codes "x") s.type ∷ [])))
   first_says few fresh =
       let next = at_declared keys key.name (Entity (codes "x") s.type ∷ []) in
       word_line _ _ 107 (codes "ey") (0x20 ∷ (key.name ++ 0x20 ∷ term_text s.type)) (Some word.Key) (text_first key.name s.type s.name s.iri) refl refl refl refl refl refl
       (yes (lt-ltb _ _ few) (key_says keys _ 3 key.name s.type next s.name s.iri (at_more (first_content key.name s.type) 0 (codes "key") _ (at_first _))
       (cond-false (has_name keys key.name) (Err NameUsedTwice) (Ok next) fresh)))
 
-  end_says : finish key ≡ Ok (whole key) → LineSays (record { keys = keys; current = Some key }) (codes "end") (Ok (record { keys = keys ++ whole key ∷ []; current = None }))
+  end_says : finish key ≡ Ok (whole key) → KeyLineSays (record { keys = keys; current = Some key }) (codes "end") (Ok (record { keys = keys ++ whole key ∷ []; current = None }))
   end_says e =
       word_line _ _ 101 (codes "nd") [] (Some word.End) text_end refl refl refl refl tt refl
       (goes_on {x = whole key} (says_close (codes "end") 3 (Is (finish key)) (Ok (whole key)) (at_more (codes "end") 0 (codes "end") [] (at_first (codes "end"))) (sym e)) refl)

@@ -11,7 +11,7 @@ use Rattle.key_lang.specs.declared.fault.KeyStop.{KeyStop}
 use Rattle.key_lang.specs.declared.fault.KeyStop.TheVariants.{NoMemory, Refused}
 use Rattle.key_lang.specs.declared.file.Seen.{Seen}
 use Rattle.key_lang.specs.Answers.{Is, stops, goes_on}
-use Rattle.key_lang.specs.Statements.{LineSays}
+use Rattle.key_lang.specs.Statements.{KeyLineSays}
 use Rattle.key_lang.specs.KeyText.{LinesSay, start, ended, after_lines, KeysSay, IsTold}
 use Rattle.key_lang.specs.Seen.{IsJudged, HasSeen, SeesLines, HasSeenAll, SeesAll, next_line}
 use Rattle.key_lang.proofs.LinesLemmas.{lines_push, lines_stop, refused_more}
@@ -31,7 +31,7 @@ pub lines_last : (bytes : List ℕ) (seen : Seen) → HasSeen bytes seen → see
 lines_last bytes seen s some =
     ap (λ (l : List (List ℕ)). (cut_of bytes).ended ++ l) (ap last_of s.rest ∙ last_one (drop seen.from bytes) (omega (arith, length-drop seen.from bytes)))
 
-pub rest_good : (bytes : List ℕ) (seen after : Seen) → HasSeen bytes seen → seen.from < length bytes → LineSays seen.state (drop seen.from bytes) (Ok after.state) → after.number ≡ seen.number + 1
+pub rest_good : (bytes : List ℕ) (seen after : Seen) → HasSeen bytes seen → seen.from < length bytes → KeyLineSays seen.state (drop seen.from bytes) (Ok after.state) → after.number ≡ seen.number + 1
     → HasSeenAll bytes after
 rest_good bytes seen after s some says number =
     let all = (cut_of bytes).ended in

@@ -10,16 +10,15 @@ use Rattle.nt_lex.specs.Spelling.{Spells}
 use Rattle.nt_lex.specs.Reading.{TermStops}
 use Rattle.term_text.specs.CanonicalText.{term_text}
 use Rattle.key_file.specs.KeyShape.{KeyShape}
-use Rattle.gk_base.specs.declared.lex_fault.LexFault.TheVariants.{BadIri}
 use Rattle.key_lang.specs.declared.fault.KeyFault.{KeyFault}
-use Rattle.key_lang.specs.declared.fault.KeyFault.TheVariants.{Lex, UnknownStatement}
+use Rattle.key_lang.specs.declared.fault.KeyFault.TheVariants.{BadIri, UnknownStatement}
 use Rattle.key_lang.specs.declared.keyword.Keyword.{Keyword}
 use Rattle.key_lang.specs.declared.open_key.Object.{Object}
 use Rattle.key_lang.specs.declared.open_key.Object.TheVariants.{Declared, Given}
 use Rattle.key_lang.specs.Answers.{Is, goes_on, yes, no}
 use Rattle.key_lang.specs.Tokens.{Skipping, is_word_byte, is_name, name_of, variable_of, NameSays, VariableSays, begins_iri, IriSays, begins_constant}
 use Rattle.key_lang.specs.OpenKey.{OpenShape, KeyState, is_named_so, begin, declare, link}
-use Rattle.key_lang.specs.Statements.{keyword_of, KeySays, typed_slot, TypedSays, value_slot, ValueSays, found, declared_of, DeclaredSays, begins_subject, is_sigil, ObjectSays, TripleSays, WordSays, StatementSays, begins_triple, LineSays, text}
+use Rattle.key_lang.specs.Statements.{keyword_of, KeySays, typed_slot, TypedSays, slot_of_value, ValueSays, found, declared_of, DeclaredSays, begins_key_subject, is_sigil, ObjectSays, TripleSays, WordSays, StatementSays, begins_triple, KeyLineSays, text}
 use Rattle.key_lang.proofs.TextLemmas.{IsText}
 use Rattle.key_lang.proofs.CursorLemmas.{At, at_first, at_byte, at_more, run_here, says_skip, says_word, says_close, says_term, name_all, name_first}
 
@@ -55,7 +54,7 @@ past_space : (line : List ℕ) (at : ℕ) (rest : List ℕ) → At line at (0x20
 past_space line at rest a = at_more line at (0x20 ∷ []) rest a
 
 iri_says : (line : List ℕ) (at : ℕ) (t : Term) (rest : List ℕ) → IsIri t → At line at (term_text t ++ rest) → IriSays line at (Ok (t, at + length (term_text t)))
-iri_says line at t rest i a = says_term begins_iri (Lex BadIri) line at 0x3C (term_text t) i.more rest t i.spells (i.stops rest) i.first refl a
+iri_says line at t rest i a = says_term begins_iri BadIri line at 0x3C (term_text t) i.more rest t i.spells (i.stops rest) i.first refl a
 
 skip_iri : (line : List ℕ) (at : ℕ) (t : Term) (rest : List ℕ) → IsIri t → At line at (0x20 ∷ (term_text t ++ rest)) → Skipping line at (IriSays line) (Ok (t, at + 1 + length (term_text t)))
 skip_iri line at t rest i a =
@@ -101,11 +100,11 @@ typed_says sigil key next line at name type b w n i a e =
 
 -- `value $n` and `folded $n`
 pub value_says : (folded : Bool) (key next : OpenShape) (line : List ℕ) (at : ℕ) (name : List ℕ) → is_name name ≡ true → At line at (0x20 ∷ 0x24 ∷ name)
-    → declare key (value_slot folded name) ≡ Ok next → ValueSays folded key line at (Ok next)
+    → declare key (slot_of_value folded name) ≡ Ok next → ValueSays folded key line at (Ok next)
 value_says folded key next line at name n a e =
     let after = at + 1 + length (0x24 ∷ name) in
     goes_on {x = (name, after)} (variable_says 0x24 line at name [] refl refl n tt (subst (λ (l : List ℕ). At line at (0x20 ∷ 0x24 ∷ l)) (sym (append-nil name)) a))
-    (says_close line after (Is (declare key (value_slot folded name))) (Ok next) (ended line (at + 1) (0x24 ∷ name) (past_space line at (0x24 ∷ name) a)) (sym e))
+    (says_close line after (Is (declare key (slot_of_value folded name))) (Ok next) (ended line (at + 1) (0x24 ∷ name) (past_space line at (0x24 ∷ name) a)) (sym e))
 
 -- a declared variable that a line names
 declared_says : (key : OpenShape) (line : List ℕ) (at sigil : ℕ) (name rest : List ℕ) (place : ℕ) → is_word_byte sigil ≡ true → is_name name ≡ true → NextFails is_word_byte rest
@@ -156,7 +155,7 @@ variable_named key sigil name place s n p = record {
     sigil_word b h = grind (arith, nat_tests)
 
 -- `S <p> O`
-pub triple_says : (key next : OpenShape) (line : List ℕ) (sigil : ℕ) (name : List ℕ) (from : ℕ) (pred : Term) (object : Object) (piece : List ℕ) → begins_subject sigil ≡ true → is_name name ≡ true
+pub triple_says : (key next : OpenShape) (line : List ℕ) (sigil : ℕ) (name : List ℕ) (from : ℕ) (pred : Term) (object : Object) (piece : List ℕ) → begins_key_subject sigil ≡ true → is_name name ≡ true
     → position (is_named_so sigil name) key.variables ≡ Some from → IsIri pred → NamesObject key object piece → line ≡ (sigil ∷ name) ++ 0x20 ∷ (term_text pred ++ 0x20 ∷ piece)
     → link key from pred object ≡ Ok next → TripleSays key line 0 (Ok next)
 triple_says key next line sigil name from pred object piece s n p i o whole e =
@@ -168,18 +167,18 @@ triple_says key next line sigil name from pred object piece s n p i o whole e =
     let gap : At line then (0x20 ∷ piece) = at_more line (after + 1) (term_text pred) (0x20 ∷ piece) (past_space line after rest here) in
     let last : At line (then + 1) piece = past_space line then piece gap in
     goes_on {x = (from, after)}
-    (yes (ap begins_subject (at_byte line 0 sigil (name ++ 0x20 ∷ rest) begun) ∙ s) (declared_says key line 0 sigil name (0x20 ∷ rest) from (subject_word sigil s) n refl begun p))
+    (yes (ap begins_key_subject (at_byte line 0 sigil (name ++ 0x20 ∷ rest) begun) ∙ s) (declared_says key line 0 sigil name (0x20 ∷ rest) from (subject_word sigil s) n refl begun p))
     (goes_on {x = (pred, then)} (skip_iri line after pred (0x20 ∷ piece) i here)
     (goes_on {x = (object, then + 1 + length piece)}
     (skip_to line then o.head piece o.more [] (ObjectSays key line) (Ok (object, then + 1 + length piece)) (subst (λ (l : List ℕ). At line then (0x20 ∷ l)) (sym (append-nil piece)) gap) o.first o.other (o.says line (then + 1) last))
     (says_close line (then + 1 + length piece) (Is (link key from pred object)) (Ok next) (ended line (then + 1) piece last) (sym e))))
   where
-    subject_word : (b : ℕ) → begins_subject b ≡ true → is_word_byte b ≡ true
+    subject_word : (b : ℕ) → begins_key_subject b ≡ true → is_word_byte b ≡ true
     subject_word b h = grind (arith, nat_tests)
 
 -- a line that says a statement
 pub statement_line : (state next : KeyState) (line : List ℕ) (b : ℕ) (more : List ℕ) → IsText line → line ≡ b ∷ more → is_blank b ≡ false → eqb b 0x23 ≡ false → StatementSays state line 0 (Ok next)
-    → LineSays state line (Ok next)
+    → KeyLineSays state line (Ok next)
 statement_line state next line b more t whole other comment says =
     let begun : At line 0 (b ∷ more) = subst (At line 0) whole (at_first line) in
     text t.utf8 (record {
@@ -189,26 +188,26 @@ statement_line state next line b more t whole other comment says =
     })
 
 -- a line that says a triple
-pub triple_line : (keys : List KeyShape) (key next : OpenShape) (line : List ℕ) (sigil : ℕ) (more : List ℕ) → IsText line → line ≡ sigil ∷ more → begins_subject sigil ≡ true → TripleSays key line 0 (Ok next)
-    → LineSays (record { keys = keys; current = Some key }) line (Ok (record { keys = keys; current = Some next }))
+pub triple_line : (keys : List KeyShape) (key next : OpenShape) (line : List ℕ) (sigil : ℕ) (more : List ℕ) → IsText line → line ≡ sigil ∷ more → begins_key_subject sigil ≡ true → TripleSays key line 0 (Ok next)
+    → KeyLineSays (record { keys = keys; current = Some key }) line (Ok (record { keys = keys; current = Some next }))
 triple_line keys key next line sigil more t whole s says =
     let begun : At line 0 (sigil ∷ more) = subst (At line 0) whole (at_first line) in
     statement_line _ _ line sigil more t whole (subject_blank sigil s) (subject_comment sigil s)
     (yes (ap begins_triple (at_byte line 0 sigil more begun) ∙ subject_triple sigil s) (goes_on {x = next} says refl))
   where
-    subject_blank : (b : ℕ) → begins_subject b ≡ true → is_blank b ≡ false
+    subject_blank : (b : ℕ) → begins_key_subject b ≡ true → is_blank b ≡ false
     subject_blank b h = grind (arith, nat_tests)
 
-    subject_comment : (b : ℕ) → begins_subject b ≡ true → eqb b 0x23 ≡ false
+    subject_comment : (b : ℕ) → begins_key_subject b ≡ true → eqb b 0x23 ≡ false
     subject_comment b h = grind (arith, nat_tests)
 
-    subject_triple : (b : ℕ) → begins_subject b ≡ true → begins_triple b ≡ true
+    subject_triple : (b : ℕ) → begins_key_subject b ≡ true → begins_triple b ≡ true
     subject_triple b h = grind (arith, nat_tests)
 
 -- a line that begins with a word
 pub word_line : (state next : KeyState) (b : ℕ) (w rest : List ℕ) (keyword : Option Keyword) → IsText ((b ∷ w) ++ rest) → is_blank b ≡ false → eqb b 0x23 ≡ false → begins_triple b ≡ false
     → list_all is_word_byte (b ∷ w) ≡ true → NextFails is_word_byte rest → keyword_of (b ∷ w) ≡ keyword → WordSays state keyword ((b ∷ w) ++ rest) (0 + length (b ∷ w)) (Ok next)
-    → LineSays state ((b ∷ w) ++ rest) (Ok next)
+    → KeyLineSays state ((b ∷ w) ++ rest) (Ok next)
 word_line state next b w rest keyword t other comment triple all stops is says =
     let line = (b ∷ w) ++ rest in
     statement_line state next line b (w ++ rest) t refl other comment

@@ -10,16 +10,16 @@ use Rattle.key_lang.specs.declared.fault.KeyStop.{KeyStop}
 use Rattle.key_lang.specs.declared.fault.KeyStop.TheVariants.{NoMemory, Refused}
 use Rattle.key_lang.specs.declared.keyword.Keyword.{Keyword}
 use Rattle.key_lang.specs.declared.keyword.Keyword.TheVariants as word
-use Rattle.key_lang.specs.Answers.{Is, Where, HasOne}
-use Rattle.gk_base.specs.declared.lex_fault.LexFault.TheVariants.{BadIri}
-use Rattle.key_lang.specs.declared.fault.KeyFault.TheVariants.{Lex, UnknownStatement}
-use Rattle.key_lang.specs.Tokens.{Skipping, is_over, begins_iri, begins_constant, TermSays, NameSays, VariableSays, IriSays}
+use Rattle.nt_lex.specs.Answers.{HasOne}
+use Rattle.key_lang.specs.Answers.{Is, Where}
+use Rattle.key_lang.specs.declared.fault.KeyFault.TheVariants.{BadIri, UnknownStatement}
+use Rattle.key_lang.specs.Tokens.{Skipping, is_over, begins_iri, begins_constant, TokenSays, NameSays, VariableSays, IriSays}
 use Rattle.key_lang.specs.OpenKey.{OpenShape, KeyState}
-use Rattle.key_lang.specs.Statements.{KeySays, TypedSays, ValueSays, DeclaredSays, SubjectSays, ObjectSays, TripleSays, Changes, OutsideSays, InsideSays, PlacedSays, WordSays, LinkSays, keyword_of, StatementSays, LineSays, no_text, text}
+use Rattle.key_lang.specs.Statements.{KeySays, TypedSays, ValueSays, DeclaredSays, KeySubjectSays, ObjectSays, TripleSays, Changes, OutsideSays, InsideSays, PlacedSays, WordSays, LinkSays, keyword_of, StatementSays, KeyLineSays, no_text, text}
 use Rattle.key_lang.specs.KeyText.{LinesSay, none, faulty, good, start, KeysSay, IsTold, Tells}
 use Rattle.key_lang.proofs.AnswerLemmas.{is_once, then_once, where_once, skip_once, word_once, close_once, lexed_once}
 
-term_once : (begins : ℕ → Bool) (expected : KeyFault) (line : List ℕ) (at : ℕ) → HasOne (TermSays begins expected line at)
+term_once : (begins : ℕ → Bool) (expected : KeyFault) (line : List ℕ) (at : ℕ) → HasOne (TokenSays begins expected line at)
 term_once begins expected line at = where_once _ _ _ (lexed_once (Says line at) (says_once line at)) (is_once _)
 
 name_once : (line : List ℕ) (at : ℕ) → HasOne (NameSays line at)
@@ -32,7 +32,7 @@ declared_once : (key : OpenShape) (line : List ℕ) (at : ℕ) → HasOne (Decla
 declared_once key line at = word_once line at _ (λ w n. is_once _)
 
 iri_once : (line : List ℕ) (at : ℕ) → HasOne (Skipping line at (IriSays line))
-iri_once line at = skip_once line at _ (λ n. term_once begins_iri (Lex BadIri) line n)
+iri_once line at = skip_once line at _ (λ n. term_once begins_iri BadIri line n)
 
 key_once : (keys : List KeyShape) (line : List ℕ) (at : ℕ) → HasOne (KeySays keys line at)
 key_once keys line at = then_once _ _ (skip_once line at _ (λ n. name_once line n)) (λ name. then_once _ _ (iri_once line name.1) (λ type. close_once line type.1 _ (is_once _)))
@@ -44,7 +44,7 @@ typed_once sigil key line at =
 value_once : (folded : Bool) (key : OpenShape) (line : List ℕ) (at : ℕ) → HasOne (ValueSays folded key line at)
 value_once folded key line at = then_once _ _ (skip_once line at _ (λ n. variable_once 0x24 line n)) (λ name. close_once line name.1 _ (is_once _))
 
-subject_once : (key : OpenShape) (line : List ℕ) (at : ℕ) → HasOne (SubjectSays key line at)
+subject_once : (key : OpenShape) (line : List ℕ) (at : ℕ) → HasOne (KeySubjectSays key line at)
 subject_once key line at = where_once _ _ _ (declared_once key line at) (is_once _)
 
 object_once : (key : OpenShape) (line : List ℕ) (at : ℕ) → HasOne (ObjectSays key line at)
@@ -90,7 +90,7 @@ statement_once : (state : KeyState) (line : List ℕ) (at : ℕ) → HasOne (Sta
 statement_once state line at = where_once _ _ _ (link_once state.keys state.current line at) (word_once line at _ (λ w n. words_once state (keyword_of w) line n))
 
 -- a line says one thing
-pub line_once : (state : KeyState) (line : List ℕ) → HasOne (LineSays state line)
+pub line_once : (state : KeyState) (line : List ℕ) → HasOne (KeyLineSays state line)
 line_once state line a b (no_text n) (no_text m) = refl
 line_once state line a b (no_text n) (text u s) = absurd (n u)
 line_once state line a b (text u s) (no_text m) = absurd (m u)

@@ -13,9 +13,9 @@ use Rattle.term_table.specs.Numbering.{same_term}
 use Rattle.term_table.proofs.NumberingLemmas.{same_term-Decides}
 use Rattle.key_file.specs.declared.slot.KeySlot.{KeySlot}
 use Rattle.key_file.specs.declared.slot.KeySlot.TheVariants.{Entity, Any, Value, Folded, Fixed}
-use Rattle.key_file.specs.Key.{is_subject, same_slot, all_differ}
+use Rattle.key_file.specs.Key.{may_be_subject, same_slot, all_differ}
 use Rattle.key_lang.specs.OpenKey.{sigil_of, slot_name, is_named_so}
-use Rattle.key_lang.specs.Statements.{begins_subject, is_sigil}
+use Rattle.key_lang.specs.Statements.{begins_key_subject, is_sigil}
 use Rattle.key_lang.specs.Fair.{is_no_constant}
 use Rattle.key_lang.specs.CanonicalKeys.{node_text}
 
@@ -85,7 +85,7 @@ slot_sigil (Value a) p = refl
 slot_sigil (Folded a) p = refl
 slot_sigil (Fixed t) p = absurd (true≢false (sym p))
 
-pub subject_sigil : (s : KeySlot) → is_subject (Some s) ≡ true → begins_subject (sigil_of s) ≡ true
+pub subject_sigil : (s : KeySlot) → may_be_subject (Some s) ≡ true → begins_key_subject (sigil_of s) ≡ true
 subject_sigil (Entity a t) p = refl
 subject_sigil (Any a t) p = refl
 subject_sigil (Value a) p = absurd (true≢false (sym p))

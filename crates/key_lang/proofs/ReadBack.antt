@@ -1,6 +1,6 @@
 -- Reading the canonical text of the keys that a file says gives these keys.
-use Rattle.std.proofs.Common.{◌≡◌, ℕ, ◌+◌, ◌≤◌, Bool, true, false, not, cond, eqb, nat_lt, List, [], ◌∷◌, ◌++◌, length, codes, slice_range, position, Option, Some, None, Result, Ok, Err, refl, sym, ap, ap₂, ◌∙◌, subst, arith, append-nil}
-use Rattle.std.proofs.lemmas.Bool.{and_parts, or_from, cond-true, cond-false, le-leb, le-ltb, ltb-true, eqb-true, false_from_ne_true, true≢false}
+use Rattle.std.proofs.Common.{◌≡◌, ◌↔◌, ℕ, ◌+◌, ◌≤◌, Bool, true, false, not, cond, eqb, nat_lt, List, [], ◌∷◌, ◌++◌, length, codes, slice_range, position, Option, Some, None, Result, Ok, Err, refl, sym, ap, ap₂, ◌∙◌, subst, arith, append-nil}
+use Rattle.std.proofs.lemmas.Bool.{and_parts, or_from, cond-true, cond-false, le-leb, le-ltb, ltb-true, ltb-false, eqb-true, false_from_ne_true, true≢false}
 use Rattle.std.proofs.lemmas.List.Concat.{flat_map-append}
 use Rattle.std.specs.List.{list_all, list_any}
 use Rattle.gk_base.specs.declared.term.Term.{Term}
@@ -25,7 +25,7 @@ use Rattle.key_lang.specs.declared.open_key.Object.TheVariants.{Declared, Given}
 use Rattle.key_lang.specs.Answers.{Is, goes_on}
 use Rattle.key_lang.specs.Tokens.{Skipping, is_name, NameSays, VariableSays, IriSays, ConstantSays, Closes, is_over}
 use Rattle.key_lang.specs.OpenKey.{OpenShape, KeyState, nodes, sigil_of, slot_name, is_named_so, begin, declare, same_end, same_triple, add, placed_at, led, link, whole, all_used, finish}
-use Rattle.key_lang.specs.Statements.{KeySays, typed_slot, TypedSays, value_slot, ValueSays, DeclaredSays, SubjectSays, ObjectSays, TripleSays, Changes, EndSays, OutsideSays, InsideSays, WordSays, LinkSays, keyword_of, StatementSays, LineSays, no_text, text}
+use Rattle.key_lang.specs.Statements.{KeySays, typed_slot, TypedSays, slot_of_value, ValueSays, DeclaredSays, KeySubjectSays, ObjectSays, TripleSays, Changes, KeyEndSays, OutsideSays, InsideSays, WordSays, LinkSays, keyword_of, StatementSays, KeyLineSays, no_text, text}
 use Rattle.key_lang.specs.KeyText.{LinesSay, none, good, start, ended, KeysSay}
 use Rattle.key_lang.specs.Fair.{leads, is_inside, IsFair, IsFairBeside, IsFairState}
 use Rattle.key_lang.specs.CanonicalKeys.{key_text, keys_text}
@@ -159,15 +159,15 @@ module _ (key : OpenShape) (s : IsSpelled key) (line : List ℕ) (at : ℕ) wher
   value_spelled : (folded : Bool) → Keeps IsSpelled (ValueSays folded key line at)
   value_spelled folded =
       keeps_then IsSpelled (Skipping line at (VariableSays 0x24 line)) _ (λ name n. keeps_close IsSpelled line name.1 _
-      (keeps_is IsSpelled _ (declare_spelled key s (value_slot folded name.0) (either folded name.0 (keeps_skip IsNamed line at (VariableSays 0x24 line) (λ k. variable_keeps 0x24 line k) (Ok name) n)))))
+      (keeps_is IsSpelled _ (declare_spelled key s (slot_of_value folded name.0) (either folded name.0 (keeps_skip IsNamed line at (VariableSays 0x24 line) (λ k. variable_keeps 0x24 line k) (Ok name) n)))))
     where
-      either : (b : Bool) (name : List ℕ) → is_name name ≡ true → GoodSlot (value_slot b name)
+      either : (b : Bool) (name : List ℕ) → is_name name ≡ true → GoodSlot (slot_of_value b name)
       either true name n = n
       either false name n = n
 
   triple_spelled : IsFair key → Keeps IsSpelled (TripleSays key line at)
   triple_spelled fair =
-      keeps_then IsSpelled (SubjectSays key line at) _ (λ from _. keeps_then IsSpelled (Skipping line from.1 (IriSays line)) _ (λ pred i.
+      keeps_then IsSpelled (KeySubjectSays key line at) _ (λ from _. keeps_then IsSpelled (Skipping line from.1 (IriSays line)) _ (λ pred i.
       keeps_then IsSpelled (Skipping line pred.1 (ObjectSays key line)) _ (λ to object. keeps_close IsSpelled line to.1 _ (keeps_is IsSpelled _
       (link_spelled key s fair from.0 pred.0 (iri_here line from.1 pred i) to.0
       (keeps_skip (λ r. GoodObject r.0) line pred.1 (ObjectSays key line) (λ n. object_keeps key line n) (Ok to) object))))))
@@ -207,7 +207,7 @@ replayed_more keys key r beside s e = record {
   plain = all_of_append IsText r.content (contents key s) r.plain (contents_plain keys key beside.fair s);
 }
 
-end_spelled : (keys : List KeyShape) (key : OpenShape) → IsReplayed keys → IsFairBeside keys key → IsSpelled key → (line : List ℕ) (at : ℕ) → Keeps IsSpelledState (EndSays keys key line at)
+end_spelled : (keys : List KeyShape) (key : OpenShape) → IsReplayed keys → IsFairBeside keys key → IsSpelled key → (line : List ℕ) (at : ℕ) → Keeps IsSpelledState (KeyEndSays keys key line at)
 end_spelled keys key r beside s line at =
     keeps_then IsSpelledState (Closes line at (Is (finish key))) _ (λ w says. keeps_is IsSpelledState _
     (let f = keeps_close (Finishes key) line at (Is (finish key)) (keeps_is (Finishes key) (finish key) (finishes key)) (Ok w) says in
@@ -242,7 +242,7 @@ link_says : (keys : List KeyShape) (current : Option OpenShape) → IsFairState 
 link_says keys None fair r s line at = keeps_is IsSpelledState _ tt
 link_says keys (Some key) fair r s line at = changes_spelled keys r _ (triple_spelled key s line at fair.fair)
 
-line_spelled : (state : KeyState) → IsFairState state → IsSpelledState state → (line : List ℕ) → Keeps IsSpelledState (LineSays state line)
+line_spelled : (state : KeyState) → IsFairState state → IsSpelledState state → (line : List ℕ) → Keeps IsSpelledState (KeyLineSays state line)
 line_spelled state fair s line answer (no_text n) = tt
 line_spelled state fair s line answer (text u says) =
     keeps_skip IsSpelledState line 0 _ (λ at. keeps_where IsSpelledState (is_over line at) _ (StatementSays state line at) (λ _. keeps_is IsSpelledState _ s) (λ _.
@@ -269,10 +269,22 @@ keys_replayed limit bytes =
     at_end keys None last r = r
     at_end keys (Some key) last r = tt
 
--- their canonical text says them
-pub keys_again : (limit : ℕ) (bytes : List ℕ) (keys : List KeyShape) → KeysSay limit bytes (Ok keys) → length (keys_text keys) ≤ limit → KeysSay limit (keys_text keys) (Ok keys)
-keys_again limit bytes keys says within =
-    let r = keys_replayed limit bytes (Ok keys) says in
+-- a file that says keys is within the limit
+says_within : (limit : ℕ) (bytes : List ℕ) → Keeps {A = List KeyShape} (λ _. length bytes ≤ limit) (KeysSay limit bytes)
+says_within limit bytes =
+    let Fits : List KeyShape → Type 0 = λ _. length bytes ≤ limit in
+    keeps_then Fits (LinesSay start 1 (judged limit bytes)) _ (λ state says. keeps_is Fits _
+    (good_if Fits (nat_lt limit (length bytes)) (Err (record { line = _; fault = FileTooLong })) (ended state.keys state.current (length (lines bytes))) (λ _. tt)
+    (λ test. at_end state.keys state.current (length (lines bytes)) (ltb-false limit (length bytes) test))))
+  where
+    at_end : (keys : List KeyShape) (current : Option OpenShape) (last : ℕ) → length bytes ≤ limit → Good (λ _. length bytes ≤ limit) (ended keys current last)
+    at_end keys None last h = h
+    at_end keys (Some key) last h = tt
+
+-- their canonical text says them, under each limit that it fits
+text_says : (first limit : ℕ) (bytes : List ℕ) (keys : List KeyShape) → KeysSay first bytes (Ok keys) → length (keys_text keys) ≤ limit → KeysSay limit (keys_text keys) (Ok keys)
+text_says first limit bytes keys says within =
+    let r = keys_replayed first bytes (Ok keys) says in
     let all = keys_text keys in
     let lined : Lined r.content [] all = subst (Lined r.content []) (sym r.whole) (joined_lined r.content r.plain) in
     let same = lined_once (cut_of all).ended r.content (cut_of all).rest [] all (cut_lined all) lined in
@@ -280,3 +292,8 @@ keys_again limit bytes keys says within =
     let judges : judged limit all ≡ r.content = cond-true _ _ _ (le-leb _ _ within) ∙ lines_are in
     goes_on {x = record { keys = keys; current = None }} (subst (λ (l : List (List ℕ)). LinesSay start 1 l (Ok (record { keys = keys; current = None }))) (sym judges) r.says)
     (sym (cond-false _ _ _ (le-ltb limit (length all) within)))
+
+-- and under no other
+pub keys_again : (first limit : ℕ) (bytes : List ℕ) (keys : List KeyShape) → KeysSay first bytes (Ok keys) →
+    (length (keys_text keys) ≤ limit) ↔ KeysSay limit (keys_text keys) (Ok keys)
+keys_again first limit bytes keys says = (text_says first limit bytes keys says, says_within limit (keys_text keys) (Ok keys))

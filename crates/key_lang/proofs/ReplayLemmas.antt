@@ -10,7 +10,7 @@ use Rattle.term_text.specs.CanonicalText.{term_text}
 use Rattle.key_file.specs.declared.slot.KeySlot.{KeySlot}
 use Rattle.key_file.specs.declared.slot.KeySlot.TheVariants.{Entity, Any, Value, Folded, Fixed}
 use Rattle.key_file.specs.KeyShape.{KeyShape}
-use Rattle.key_file.specs.Key.{is_subject, all_differ}
+use Rattle.key_file.specs.Key.{may_be_subject, all_differ}
 use Rattle.key_lang.specs.declared.fault.KeyFault.TheVariants.{TooManyNodes, TooManyTriplesInKey}
 use Rattle.key_lang.specs.declared.open_key.End.{End}
 use Rattle.key_lang.specs.declared.open_key.End.TheVariants.{Variable, Constant}
@@ -18,8 +18,8 @@ use Rattle.key_lang.specs.declared.open_key.OpenEdge.{OpenEdge}
 use Rattle.key_lang.specs.declared.open_key.Object.{Object}
 use Rattle.key_lang.specs.declared.open_key.Object.TheVariants.{Declared, Given}
 use Rattle.key_lang.specs.Tokens.{is_name}
-use Rattle.key_lang.specs.OpenKey.{OpenShape, KeyState, nodes, sigil_of, slot_name, same_end, same_triple, add, placed_at, led, link, slot_of, key_edge, whole}
-use Rattle.key_lang.specs.Statements.{LineSays}
+use Rattle.key_lang.specs.OpenKey.{OpenShape, KeyState, nodes, sigil_of, slot_name, same_end, same_triple, add, placed_at, led, link, slot_of_end, key_edge, whole}
+use Rattle.key_lang.specs.Statements.{KeyLineSays}
 use Rattle.key_lang.specs.KeyText.{LinesSay, none, good}
 use Rattle.key_lang.specs.Fair.{is_no_constant, leads, is_inside, IsFair}
 use Rattle.key_lang.specs.CanonicalKeys.{node_at}
@@ -148,16 +148,16 @@ module _ (keys : List KeyShape) (key : OpenShape) (fair : IsFair key) (slots : A
   abbrev pub line_of : OpenEdge → List ℕ
   line_of e = triple_content (whole key).slots (key_edge (length key.variables) e)
 
-  step : (cs cs' : List Term) (es : List OpenEdge) (e : OpenEdge) (object : Object) (o : KeySlot) (to : ℕ) → is_subject (slice_get key.variables e.from) ≡ true → IsIri e.pred
-      → slot_of (length key.variables) e.to ≡ to → slice_get (whole key).slots to ≡ Some o → GoodNode o → NamesObject (part key cs es) object (node_at (whole key).slots to)
+  step : (cs cs' : List Term) (es : List OpenEdge) (e : OpenEdge) (object : Object) (o : KeySlot) (to : ℕ) → may_be_subject (slice_get key.variables e.from) ≡ true → IsIri e.pred
+      → slot_of_end (length key.variables) e.to ≡ to → slice_get (whole key).slots to ≡ Some o → GoodNode o → NamesObject (part key cs es) object (node_at (whole key).slots to)
       → link (part key cs es) e.from e.pred object ≡ Ok (part key cs' (es ++ e ∷ []))
-      → LineSays (record { keys = keys; current = Some (part key cs es) }) (line_of e) (Ok (record { keys = keys; current = Some (part key cs' (es ++ e ∷ [])) }))
+      → KeyLineSays (record { keys = keys; current = Some (part key cs es) }) (line_of e) (Ok (record { keys = keys; current = Some (part key cs' (es ++ e ∷ [])) }))
   step cs cs' es e object o to subject i is o_at go named_object linked =
       let all = (whole key).slots in
       let inside = some_subject key.variables e.from subject in
       let s = slice_get-within key.variables e.from inside in
       let g = good_at key.variables slots e.from s.0 s.1 in
-      let begins = subject_sigil s.0 (ap is_subject (sym s.1) ∙ subject) in
+      let begins = subject_sigil s.0 (ap may_be_subject (sym s.1) ∙ subject) in
       let edge = key_edge (length key.variables) e in
       let o_here : slice_get all edge.to ≡ Some o = ap (slice_get all) is ∙ o_at in
       let objects : NamesObject (part key cs es) object (node_at all edge.to) = subst (λ n. NamesObject (part key cs es) object (node_at all n)) (sym is) named_object in
@@ -187,14 +187,14 @@ module _ (keys : List KeyShape) (key : OpenShape) (fair : IsFair key) (slots : A
       let this = and_parts _ _ parts.0 in
       let below = ltb-true place (length key.variables) (ap (leads key) (sym to) ∙ this.1) in
       let s = slice_get-within key.variables place below in
-      good (step cs cs before e (Declared place) s.0 place this.0 iris.0 (ap (slot_of (length key.variables)) to) (in_all place s.0 s.1) (node s.0 (good_at key.variables slots place s.0 s.1)) (to_variable cs before place s.0 s.1)
+      good (step cs cs before e (Declared place) s.0 place this.0 iris.0 (ap (slot_of_end (length key.variables)) to) (in_all place s.0 s.1) (node s.0 (good_at key.variables slots place s.0 s.1)) (to_variable cs before place s.0 s.1)
       (ap (add (part key cs before)) (edge_to e (Variable place) to) ∙ more before e es cs split))
       (replay (before ++ e ∷ []) es cs ds (n + 1) (split ∙ sym (append_assoc before (e ∷ []) es)) parts.1 iris.1 g same)
   replay before (e ∷ es) cs ds n split inside iris (known e' place t to given at g) same =
       let parts = and_parts _ _ inside in
       let this = and_parts _ _ parts.0 in
       let here : slice_get key.constants place ≡ Some t = ap (λ (l : List Term). slice_get l place) (sym same) ∙ stays_at cs ds es g place t (term_at cs t place at) in
-      good (step cs cs before e (Given t) (Fixed t) (length key.variables + place) this.0 iris.0 (ap (slot_of (length key.variables)) to) (constant_in_all place t here) given (to_constant cs before place t given here)
+      good (step cs cs before e (Given t) (Fixed t) (length key.variables + place) this.0 iris.0 (ap (slot_of_end (length key.variables)) to) (constant_in_all place t here) given (to_constant cs before place t given here)
       (ap (λ o. led e.from e.pred (placed_at (part key cs before) t o)) at ∙ ap (add (part key cs before)) (edge_to e (Constant place) to) ∙ more before e es cs split))
       (replay (before ++ e ∷ []) es cs ds (n + 1) (split ∙ sym (append_assoc before (e ∷ []) es)) parts.1 iris.1 g same)
   replay before (e ∷ es) cs ds n split inside iris (new e' t to given at g) same =
@@ -204,13 +204,13 @@ module _ (keys : List KeyShape) (key : OpenShape) (fair : IsFair key) (slots : A
       let here : slice_get key.constants (length cs) ≡ Some t = ap (λ (l : List Term). slice_get l (length cs)) (sym same) ∙ stays_at grown ds es g (length cs) t (slice_get-push cs t) in
       let kept = stay grown ds es g in
       let room : nodes (part key cs before) < 16 = omega (arith, fair.few_nodes, ap length same, ap length kept.1, length-append grown kept.0, length-append cs (t ∷ [])) in
-      good (step cs grown before e (Given t) (Fixed t) (length key.variables + length cs) this.0 iris.0 (ap (slot_of (length key.variables)) to) (constant_in_all (length cs) t here) given (to_constant cs before (length cs) t given here)
+      good (step cs grown before e (Given t) (Fixed t) (length key.variables + length cs) this.0 iris.0 (ap (slot_of_end (length key.variables)) to) (constant_in_all (length cs) t here) given (to_constant cs before (length cs) t given here)
       (ap (λ o. led e.from e.pred (placed_at (part key cs before) t o)) at
       ∙ ap (led e.from e.pred) (cond-true (nat_lt (nodes (part key cs before)) 16) (Ok (part key grown before, length cs)) (Err TooManyNodes) (lt-ltb _ _ room))
       ∙ ap (add (part key grown before)) (edge_to e (Constant (length cs)) to) ∙ more before e es grown split))
       (replay (before ++ e ∷ []) es grown ds (n + 1) (split ∙ sym (append_assoc before (e ∷ []) es)) parts.1 iris.1 g same)
 
-  line_text : (e : OpenEdge) (o : KeySlot) (to : ℕ) → is_subject (slice_get key.variables e.from) ≡ true → IsIri e.pred → slot_of (length key.variables) e.to ≡ to
+  line_text : (e : OpenEdge) (o : KeySlot) (to : ℕ) → may_be_subject (slice_get key.variables e.from) ≡ true → IsIri e.pred → slot_of_end (length key.variables) e.to ≡ to
       → slice_get (whole key).slots to ≡ Some o → GoodNode o → IsText (line_of e)
   line_text e o to subject i is o_at go =
       let s = slice_get-within key.variables e.from (some_subject key.variables e.from subject) in
@@ -224,15 +224,15 @@ module _ (keys : List KeyShape) (key : OpenShape) (fair : IsFair key) (slots : A
       let parts = and_parts _ _ inside in
       let this = and_parts _ _ parts.0 in
       let s = slice_get-within key.variables place (ltb-true place (length key.variables) (ap (leads key) (sym to) ∙ this.1)) in
-      (line_text e s.0 place this.0 iris.0 (ap (slot_of (length key.variables)) to) (in_all place s.0 s.1) (node s.0 (good_at key.variables slots place s.0 s.1)), triples_plain es cs ds parts.1 iris.1 g same)
+      (line_text e s.0 place this.0 iris.0 (ap (slot_of_end (length key.variables)) to) (in_all place s.0 s.1) (node s.0 (good_at key.variables slots place s.0 s.1)), triples_plain es cs ds parts.1 iris.1 g same)
   triples_plain (e ∷ es) cs ds inside iris (known e' place t to given at g) same =
       let parts = and_parts _ _ inside in
       let here : slice_get key.constants place ≡ Some t = ap (λ (l : List Term). slice_get l place) (sym same) ∙ stays_at cs ds es g place t (term_at cs t place at) in
-      (line_text e (Fixed t) (length key.variables + place) (and_parts _ _ parts.0).0 iris.0 (ap (slot_of (length key.variables)) to) (constant_in_all place t here) given, triples_plain es cs ds parts.1 iris.1 g same)
+      (line_text e (Fixed t) (length key.variables + place) (and_parts _ _ parts.0).0 iris.0 (ap (slot_of_end (length key.variables)) to) (constant_in_all place t here) given, triples_plain es cs ds parts.1 iris.1 g same)
   triples_plain (e ∷ es) cs ds inside iris (new e' t to given at g) same =
       let parts = and_parts _ _ inside in
       let grown = cs ++ t ∷ [] in
       let here : slice_get key.constants (length cs) ≡ Some t = ap (λ (l : List Term). slice_get l (length cs)) (sym same) ∙ stays_at grown ds es g (length cs) t (slice_get-push cs t) in (
-        line_text e (Fixed t) (length key.variables + length cs) (and_parts _ _ parts.0).0 iris.0 (ap (slot_of (length key.variables)) to) (constant_in_all (length cs) t here) given,
+        line_text e (Fixed t) (length key.variables + length cs) (and_parts _ _ parts.0).0 iris.0 (ap (slot_of_end (length key.variables)) to) (constant_in_all (length cs) t here) given,
         triples_plain es grown ds parts.1 iris.1 g same,
       )

@@ -8,7 +8,7 @@ use Rattle.nt_reader.proofs.StateLemmas.{take_part, length-range, range_passes, 
 use Rattle.key_lang.specs.declared.fault.KeyRefusal.{KeyRefusal}
 use Rattle.key_lang.specs.declared.file.Seen.{Seen}
 use Rattle.key_lang.specs.OpenKey.{KeyState}
-use Rattle.key_lang.specs.Statements.{LineSays}
+use Rattle.key_lang.specs.Statements.{KeyLineSays}
 use Rattle.key_lang.specs.KeyText.{LinesSay, none, start}
 use Rattle.key_lang.specs.Fair.{IsFairState}
 use Rattle.key_lang.specs.Seen.{HasSeen}
@@ -76,7 +76,7 @@ module _ (front : List ℕ) (from number : ℕ) (returned : Bool) (state : KeySt
         ∙ ap (λ (r : List ℕ). let c : Cut = record { ended = (cut_of seen).ended ++ (r ++ line) ∷ []; rest = []; returned = eqb b 0x0D } in c) a.rest
 
     -- a good line
-    pub at_line : (next : KeyState) → LineSays state (slice_range front from end) (Ok next) → IsAt front (end + 1) (number + 1) (eqb (get_or front end 0) 0x0D) next
+    pub at_line : (next : KeyState) → KeyLineSays state (slice_range front from end) (Ok next) → IsAt front (end + 1) (number + 1) (eqb (get_or front end 0) 0x0D) next
     at_line next says =
         let ended = (cut_of (take from front)).ended in
         after (end + 1) (number + 1) (eqb (get_or front end 0) 0x0D) next _ cut_here (omega arith) refl refl
@@ -84,7 +84,7 @@ module _ (front : List ℕ) (from number : ℕ) (returned : Bool) (state : KeySt
         (omega (arith, a.number_is, length-append ended (slice_range front from end ∷ []))) (omega (arith, a.small, run.ordered)) (line_keeps state a.fair (slice_range front from end) (Ok next) says)
 
     -- a faulty one
-    pub at_fault : (refusal : KeyRefusal) → refusal.line ≡ number → LineSays state (slice_range front from end) (Err refusal.fault) → LinesSay start 1 (cut_of front).ended (Err refusal)
+    pub at_fault : (refusal : KeyRefusal) → refusal.line ≡ number → KeyLineSays state (slice_range front from end) (Err refusal.fault) → LinesSay start 1 (cut_of front).ended (Err refusal)
     at_fault refusal line says =
         let ended = (cut_of (take from front)).ended in
         let grown = ended_grows (cut_of (take (end + 1) front)) (drop (end + 1) front) in

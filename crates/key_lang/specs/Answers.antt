@@ -3,7 +3,7 @@
 use Rattle.std.specs.Prelude.{◌≡◌, Bool, true, false, Result, Ok, Err}
 use Rattle.gk_base.specs.declared.lex_fault.LexFault.{LexFault}
 use Rattle.key_lang.specs.declared.fault.KeyFault.{KeyFault}
-use Rattle.key_lang.specs.declared.fault.KeyFault.TheVariants.{Lex}
+use Rattle.key_lang.specs.Faults.{fault_of_term}
 use Rattle.key_lang.specs.declared.fault.LineStop.{LineStop}
 use Rattle.key_lang.specs.declared.fault.LineStop.TheVariants.{NoMemory, Fault}
 
@@ -24,14 +24,10 @@ pub data Where {A F : Type 0} (test : Bool) (Yes No : Result A F → Type 0) (an
 -- a term or a fault of N-Triples, in a key file
 pub data Lexed {A : Type 0} (Says : Result A LexFault → Type 0) : Result A KeyFault → Type 0 where
   reads : {x : A} → Says (Ok x) → Lexed Says (Ok x)
-  fails : {fault : LexFault} → Says (Err fault) → Lexed Says (Err (Lex fault))
-
--- at most one answer is to be given
-abbrev pub HasOne : {A F : Type 0} → (Result A F → Type 0) → Type 0
-HasOne {A} {F} Says = (a b : Result A F) → Says a → Says b → a ≡ b
+  fails : {fault : LexFault} → Says (Err fault) → Lexed Says (Err (fault_of_term fault))
 
 -- what was answered for a line, or for a part of it, is to be answered; want of memory may come at any time
-abbrev pub IsSo : {A : Type 0} → (Result A KeyFault → Type 0) → Result A LineStop → Type 0
-IsSo Says (Ok x) = Says (Ok x)
-IsSo Says (Err NoMemory) = Unit {0}
-IsSo Says (Err (Fault fault)) = Says (Err fault)
+abbrev pub AnswersLine : {A : Type 0} → (Result A KeyFault → Type 0) → Result A LineStop → Type 0
+AnswersLine Says (Ok x) = Says (Ok x)
+AnswersLine Says (Err NoMemory) = Unit {0}
+AnswersLine Says (Err (Fault fault)) = Says (Err fault)

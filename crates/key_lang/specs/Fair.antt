@@ -4,7 +4,7 @@ use Rattle.std.specs.List.{list_all}
 use Rattle.term_table.specs.Numbering.{same_term}
 use Rattle.key_file.specs.declared.slot.KeySlot.{KeySlot}
 use Rattle.key_file.specs.declared.slot.KeySlot.TheVariants.{Entity, Any, Value, Folded, Fixed}
-use Rattle.key_file.specs.Key.{is_entity, is_subject, same_slot, all_differ}
+use Rattle.key_file.specs.Key.{is_entity_variable, may_be_subject, same_slot, all_differ}
 use Rattle.key_file.specs.KeyFile.{has_name}
 use Rattle.key_file.specs.KeyShape.{KeyShape}
 use Rattle.key_lang.specs.declared.open_key.End.{End}
@@ -27,11 +27,11 @@ leads key (Constant place) = nat_lt place (length key.constants)
 
 -- a triple from an entity variable or a wildcard to a variable or a constant that is there
 abbrev pub is_inside : OpenShape → OpenEdge → Bool
-is_inside key edge = is_subject (slice_get key.variables edge.from) && leads key edge.to
+is_inside key edge = may_be_subject (slice_get key.variables edge.from) && leads key edge.to
 
 -- an open key
 pub record IsFair (key : OpenShape) : Type 0 where
-  pub first : is_entity (slice_get key.variables 0) ≡ true
+  pub first : is_entity_variable (slice_get key.variables 0) ≡ true
   pub few_nodes : nodes key ≤ 16
   pub variables : list_all is_no_constant key.variables ≡ true
   pub variables_differ : all_differ same_slot key.variables ≡ true

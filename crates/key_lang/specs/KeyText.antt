@@ -11,14 +11,14 @@ use Rattle.key_lang.specs.declared.fault.KeyStop.{KeyStop}
 use Rattle.key_lang.specs.declared.fault.KeyStop.TheVariants.{NoMemory, Refused}
 use Rattle.key_lang.specs.Answers.{Is, Then}
 use Rattle.key_lang.specs.OpenKey.{OpenShape, KeyState}
-use Rattle.key_lang.specs.Statements.{LineSays}
+use Rattle.key_lang.specs.Statements.{KeyLineSays}
 
 -- the lines from this number on, one after another: the first faulty one is refused with its number
 pub data LinesSay : KeyState → ℕ → List (List ℕ) → Result KeyState KeyRefusal → Type 0 where
   none : {state : KeyState} {number : ℕ} → LinesSay state number [] (Ok state)
-  faulty : {state : KeyState} {number : ℕ} {line : List ℕ} {more : List (List ℕ)} {fault : KeyFault} → LineSays state line (Err fault)
+  faulty : {state : KeyState} {number : ℕ} {line : List ℕ} {more : List (List ℕ)} {fault : KeyFault} → KeyLineSays state line (Err fault)
       → LinesSay state number (line ∷ more) (Err (record { line = number; fault = fault }))
-  good : {state : KeyState} {number : ℕ} {line : List ℕ} {more : List (List ℕ)} {next : KeyState} {answer : Result KeyState KeyRefusal} → LineSays state line (Ok next)
+  good : {state : KeyState} {number : ℕ} {line : List ℕ} {more : List (List ℕ)} {next : KeyState} {answer : Result KeyState KeyRefusal} → KeyLineSays state line (Ok next)
       → LinesSay next (number + 1) more answer → LinesSay state number (line ∷ more) answer
 
 -- before the first line

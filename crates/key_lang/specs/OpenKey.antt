@@ -98,8 +98,8 @@ placed_at key term None =
     else Err TooManyNodes
 
 -- the key with a constant, and the constant's place
-abbrev pub placed : OpenShape → Term → Result (OpenShape × ℕ) KeyFault
-placed key term = placed_at key term (position (same_term term) key.constants)
+abbrev pub placed_constant : OpenShape → Term → Result (OpenShape × ℕ) KeyFault
+placed_constant key term = placed_at key term (position (same_term term) key.constants)
 
 -- the key with a triple to the constant at a place
 abbrev pub led : ℕ → Term → Result (OpenShape × ℕ) KeyFault → Result OpenShape KeyFault
@@ -109,16 +109,16 @@ led from pred (Err fault) = Err fault
 -- a triple from this variable, by its place, to a declared variable or to a constant
 abbrev pub link : OpenShape → ℕ → Term → Object → Result OpenShape KeyFault
 link key from pred (Declared place) = add key (record { from = from; pred = pred; to = Variable place })
-link key from pred (Given term) = led from pred (placed key term)
+link key from pred (Given term) = led from pred (placed_constant key term)
 
 -- the slot of an end: the variables come first, then the constants
-abbrev pub slot_of : ℕ → End → ℕ
-slot_of variables (Variable place) = place
-slot_of variables (Constant place) = variables + place
+abbrev pub slot_of_end : ℕ → End → ℕ
+slot_of_end variables (Variable place) = place
+slot_of_end variables (Constant place) = variables + place
 
 -- a triple between slots
 abbrev pub key_edge : ℕ → OpenEdge → KeyEdge
-key_edge variables edge = record { from = edge.from; pred = edge.pred; to = slot_of variables edge.to }
+key_edge variables edge = record { from = edge.from; pred = edge.pred; to = slot_of_end variables edge.to }
 
 -- the whole key
 abbrev pub whole : OpenShape → KeyShape

@@ -5,7 +5,7 @@ use Rattle.gk_base.specs.declared.lex_fault.LexStop.{LexStop}
 use Rattle.gk_base.specs.declared.lex_fault.LexStop.TheVariants as lex
 use Rattle.nt_lex.specs.Chars.{is_blank}
 use Rattle.nt_lex.specs.Scans.{IsRunAt}
-use Rattle.key_lang.specs.declared.fault.KeyFault.TheVariants.{Lex}
+use Rattle.key_lang.specs.Faults.{fault_of_term}
 use Rattle.key_lang.specs.declared.fault.LineStop.{LineStop}
 use Rattle.key_lang.specs.declared.fault.LineStop.TheVariants.{NoMemory, Fault}
 use Rattle.key_file.specs.KeyShape.{KeyShape}
@@ -22,7 +22,7 @@ pub record ClosesHere (line : List ℕ) (at : ℕ) (answer : Bool) : Type 0 wher
 abbrev pub in_key_file : Result (Term × ℕ) LexStop → Result (Term × ℕ) LineStop
 in_key_file (Ok read) = Ok read
 in_key_file (Err lex.NoMemory) = Err NoMemory
-in_key_file (Err (lex.Fault fault)) = Err (Fault (Lex fault))
+in_key_file (Err (lex.Fault fault)) = Err (Fault (fault_of_term fault))
 
 -- the file with the open key as a statement changed it
 abbrev pub reopened_by : List KeyShape → Result OpenShape LineStop → Result KeyState LineStop

@@ -5,15 +5,15 @@ use Rattle.key_lang.specs.declared.fault.KeyStop.{KeyStop}
 use Rattle.key_lang.specs.declared.fault.KeyStop.TheVariants.{NoMemory, Refused}
 use Rattle.key_lang.specs.declared.file.Seen.{Seen}
 use Rattle.key_lang.specs.OpenKey.{KeyState}
-use Rattle.key_lang.specs.Statements.{LineSays}
+use Rattle.key_lang.specs.Statements.{KeyLineSays}
 use Rattle.key_lang.specs.KeyText.{LinesSay, start}
 use Rattle.key_lang.specs.Fair.{IsFairState}
 
 -- a line with this number was judged
 abbrev pub IsJudged : KeyState → List ℕ → ℕ → Result KeyState KeyStop → Type 0
-IsJudged state line number (Ok next) = LineSays state line (Ok next)
+IsJudged state line number (Ok next) = KeyLineSays state line (Ok next)
 IsJudged state line number (Err NoMemory) = Unit {0}
-IsJudged state line number (Err (Refused refusal)) = (refusal.line ≡ number) × LineSays state line (Err refusal.fault)
+IsJudged state line number (Err (Refused refusal)) = (refusal.line ≡ number) × KeyLineSays state line (Err refusal.fault)
 
 -- the lines that end in a front of the file were judged good: the state after them, the number of the next one, and how far
 -- they go

@@ -3,12 +3,11 @@
 -- that nothing follows; and what it does to the key. All of it is this project's own.
 use Rattle.std.specs.Prelude.{ℕ, ◌||◌, ◌==◌, nat_lt, bytes_eq, Bool, true, false, List, [], ◌∷◌, ◌++◌, length, slice_index, codes, IsUtf8, if◌then◌else◌, Option, Some, None, Result, Ok, Err, position}
 use Rattle.gk_base.specs.declared.term.Term.{Term}
-use Rattle.gk_base.specs.declared.lex_fault.LexFault.TheVariants.{NotUtf8}
 use Rattle.key_file.specs.declared.slot.KeySlot.{KeySlot}
 use Rattle.key_file.specs.declared.slot.KeySlot.TheVariants.{Entity, Any, Value, Folded}
 use Rattle.key_file.specs.KeyShape.{KeyShape}
 use Rattle.key_lang.specs.declared.fault.KeyFault.{KeyFault}
-use Rattle.key_lang.specs.declared.fault.KeyFault.TheVariants.{Lex, UnknownStatement, BadName, StatementOutOfPlace, VariableNotDeclared, SubjectMustBeAnEntityVariableOrWildcard, TooManyKeys}
+use Rattle.key_lang.specs.declared.fault.KeyFault.TheVariants.{NotUtf8, UnknownStatement, BadName, StatementOutOfPlace, VariableNotDeclared, SubjectMustBeAnEntityVariableOrWildcard, TooManyKeys}
 use Rattle.key_lang.specs.declared.open_key.Object.{Object}
 use Rattle.key_lang.specs.declared.open_key.Object.TheVariants.{Declared, Given}
 use Rattle.key_lang.specs.declared.keyword.Keyword.{Keyword}
@@ -45,14 +44,14 @@ TypedSays sigil key line at answer =
     Closes line type.1 (Is (declare key (typed_slot sigil name.0 type.0))))) answer
 
 -- the slot of a value variable: `value $n` and `folded $n`
-abbrev pub value_slot : Bool → List ℕ → KeySlot
-value_slot folded name = if folded then Folded name else Value name
+abbrev pub slot_of_value : Bool → List ℕ → KeySlot
+slot_of_value folded name = if folded then Folded name else Value name
 
 -- its declaration, from the place after the first word
 abbrev pub ValueSays : Bool → OpenShape → List ℕ → ℕ → Result OpenShape KeyFault → Type 0
 ValueSays folded key line at answer =
     Then (Skipping line at (VariableSays 0x24 line)) (λ name.
-    Closes line name.1 (Is (declare key (value_slot folded name.0)))) answer
+    Closes line name.1 (Is (declare key (slot_of_value folded name.0)))) answer
 
 -- a place among the variables, and the place after the word
 abbrev pub found : Option ℕ → ℕ → Result (ℕ × ℕ) KeyFault
@@ -69,13 +68,13 @@ abbrev pub DeclaredSays : OpenShape → List ℕ → ℕ → Result (ℕ × ℕ)
 DeclaredSays key line at answer = WithWord line at (λ word end. Is (declared_of key.variables word end)) answer
 
 -- `?` and `_`, with which the subject of a triple begins
-abbrev pub begins_subject : ℕ → Bool
-begins_subject b = b == 0x3F || b == 0x5F
+abbrev pub begins_key_subject : ℕ → Bool
+begins_key_subject b = b == 0x3F || b == 0x5F
 
 -- the subject of a triple: an entity variable or a wildcard
-abbrev pub SubjectSays : OpenShape → List ℕ → ℕ → Result (ℕ × ℕ) KeyFault → Type 0
-SubjectSays key line at answer =
-    Where (begins_subject (slice_index line at)) (DeclaredSays key line at) (Is (Err SubjectMustBeAnEntityVariableOrWildcard)) answer
+abbrev pub KeySubjectSays : OpenShape → List ℕ → ℕ → Result (ℕ × ℕ) KeyFault → Type 0
+KeySubjectSays key line at answer =
+    Where (begins_key_subject (slice_index line at)) (DeclaredSays key line at) (Is (Err SubjectMustBeAnEntityVariableOrWildcard)) answer
 
 -- the sigils
 abbrev pub is_sigil : ℕ → Bool
@@ -103,7 +102,7 @@ ObjectSays key line at answer = Where (is_sigil (slice_index line at)) (Declared
 -- `S <p> O`
 abbrev pub TripleSays : OpenShape → List ℕ → ℕ → Result OpenShape KeyFault → Type 0
 TripleSays key line at answer =
-    Then (SubjectSays key line at) (λ from. Then (Skipping line from.1 (IriSays line)) (λ pred. Then (Skipping line pred.1 (ObjectSays key line)) (λ to.
+    Then (KeySubjectSays key line at) (λ from. Then (Skipping line from.1 (IriSays line)) (λ pred. Then (Skipping line pred.1 (ObjectSays key line)) (λ to.
     Closes line to.1 (Is (link key from.0 pred.0 to.0))))) answer
 
 -- the file with the open key changed
@@ -119,8 +118,8 @@ abbrev pub closed : List KeyShape → KeyShape → Result KeyState KeyFault
 closed keys key = Ok (record { keys = keys ++ key ∷ []; current = None })
 
 -- `end`, from the place after it
-abbrev pub EndSays : List KeyShape → OpenShape → List ℕ → ℕ → Result KeyState KeyFault → Type 0
-EndSays keys key line at answer = Then (Closes line at (Is (finish key))) (λ whole. Is (closed keys whole)) answer
+abbrev pub KeyEndSays : List KeyShape → OpenShape → List ℕ → ℕ → Result KeyState KeyFault → Type 0
+KeyEndSays keys key line at answer = Then (Closes line at (Is (finish key))) (λ whole. Is (closed keys whole)) answer
 
 -- how many keys a file may have
 abbrev pub most_keys : ℕ
@@ -142,7 +141,7 @@ InsideSays keys key word.Entity line at answer = Changes keys (TypedSays 0x3F ke
 InsideSays keys key word.Any line at answer = Changes keys (TypedSays 0x5F key line at) answer
 InsideSays keys key word.Value line at answer = Changes keys (ValueSays false key line at) answer
 InsideSays keys key word.Folded line at answer = Changes keys (ValueSays true key line at) answer
-InsideSays keys key word.End line at answer = EndSays keys key line at answer
+InsideSays keys key word.End line at answer = KeyEndSays keys key line at answer
 
 -- a statement by its first word where it stands
 abbrev pub PlacedSays : List KeyShape → Option OpenShape → Keyword → List ℕ → ℕ → Result KeyState KeyFault → Type 0
@@ -171,7 +170,7 @@ StatementSays state line at answer =
     (WithWord line at (λ text end. WordSays state (keyword_of text) line end)) answer
 
 -- what the line says; that it is not UTF-8 comes before all other faults, in a comment too
-pub data LineSays (state : KeyState) (line : List ℕ) : Result KeyState KeyFault → Type 0 where
-  no_text : ¬ (IsUtf8 line) → LineSays state line (Err (Lex NotUtf8))
+pub data KeyLineSays (state : KeyState) (line : List ℕ) : Result KeyState KeyFault → Type 0 where
+  no_text : ¬ (IsUtf8 line) → KeyLineSays state line (Err NotUtf8)
   text : {answer : Result KeyState KeyFault} → IsUtf8 line
-      → Skipping line 0 (λ at. Where (is_over line at) (Is (Ok state)) (StatementSays state line at)) answer → LineSays state line answer
+      → Skipping line 0 (λ at. Where (is_over line at) (Is (Ok state)) (StatementSays state line at)) answer → KeyLineSays state line answer

@@ -3,12 +3,11 @@
 use Rattle.std.specs.Prelude.{ℕ, ◌&&◌, ◌||◌, ◌==◌, not, nat_le, Bool, false, List, [], ◌∷◌, length, drop, slice_index, slice_range, if◌then◌else◌, Result, Ok, Err}
 use Rattle.std.specs.List.{list_all}
 use Rattle.gk_base.specs.declared.term.Term.{Term}
-use Rattle.gk_base.specs.declared.lex_fault.LexFault.TheVariants.{BadIri}
 use Rattle.nt_lex.specs.Chars.{is_between, is_blank, is_digit}
 use Rattle.nt_lex.specs.Scans.{IsRunAt}
 use Rattle.nt_lex.specs.Reading.{Says}
 use Rattle.key_lang.specs.declared.fault.KeyFault.{KeyFault}
-use Rattle.key_lang.specs.declared.fault.KeyFault.TheVariants.{Lex, UnknownStatement, BadName}
+use Rattle.key_lang.specs.declared.fault.KeyFault.TheVariants.{BadIri, UnknownStatement, BadName}
 use Rattle.key_lang.specs.Answers.{Is, Where, Lexed}
 
 -- what stands after tabs and spaces
@@ -65,8 +64,8 @@ abbrev pub VariableSays : ℕ → List ℕ → ℕ → Result (List ℕ × ℕ) 
 VariableSays sigil line at answer = WithWord line at (λ word end. Is (variable_of sigil word end)) answer
 
 -- a term that begins with one of these bytes stands here, or else it is this fault
-abbrev pub TermSays : (ℕ → Bool) → KeyFault → List ℕ → ℕ → Result (Term × ℕ) KeyFault → Type 0
-TermSays begins expected line at answer = Where (begins (slice_index line at)) (Lexed (Says line at)) (Is (Err expected)) answer
+abbrev pub TokenSays : (ℕ → Bool) → KeyFault → List ℕ → ℕ → Result (Term × ℕ) KeyFault → Type 0
+TokenSays begins expected line at answer = Where (begins (slice_index line at)) (Lexed (Says line at)) (Is (Err expected)) answer
 
 -- `<`, with which an IRI begins
 abbrev pub begins_iri : ℕ → Bool
@@ -74,7 +73,7 @@ begins_iri b = b == 0x3C
 
 -- an IRI stands here
 abbrev pub IriSays : List ℕ → ℕ → Result (Term × ℕ) KeyFault → Type 0
-IriSays line at answer = TermSays begins_iri (Lex BadIri) line at answer
+IriSays line at answer = TokenSays begins_iri BadIri line at answer
 
 -- `<` and `"`, with which a constant begins: an IRI or a literal
 abbrev pub begins_constant : ℕ → Bool
@@ -82,4 +81,4 @@ begins_constant b = b == 0x3C || b == 0x22
 
 -- an IRI or a literal stands here
 abbrev pub ConstantSays : List ℕ → ℕ → Result (Term × ℕ) KeyFault → Type 0
-ConstantSays line at answer = TermSays begins_constant UnknownStatement line at answer
+ConstantSays line at answer = TokenSays begins_constant UnknownStatement line at answer

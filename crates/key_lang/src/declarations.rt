@@ -2,9 +2,9 @@
 
 ghost use Rattle.std.specs.Prelude.{◌≡◌, ◌<◌, ◌≤◌, length, IsUtf8, Some};
 ghost use Rattle.key_file.specs.KeyShape.{KeyShape};
-ghost use Rattle.key_lang.specs.Answers.{Is, IsSo};
+ghost use Rattle.key_lang.specs.Answers.{Is, AnswersLine};
 ghost use Rattle.key_lang.specs.OpenKey.{OpenShape, begin};
-ghost use Rattle.key_lang.specs.Statements.{KeySays, TypedSays, typed_slot, ValueSays, value_slot};
+ghost use Rattle.key_lang.specs.Statements.{KeySays, TypedSays, typed_slot, ValueSays, slot_of_value};
 
 use crate::fault::{KeyFault, LineStop};
 use crate::open_key::{OpenKey, Progress};
@@ -16,7 +16,7 @@ use std::alloc::Global;
 
 /// The file with a key that begins.
 fn begin(alloc: Global, keys: KeyFile, name: Text, kind: Term) -> Result<Progress, LineStop>
-    ensures { IsSo (Is (begin keys name kind)) result }
+    ensures { AnswersLine (Is (begin keys name kind)) result }
 {
     if keys.has_name(name.bytes()) {
         return Err(LineStop::Fault(KeyFault::NameUsedTwice));
@@ -44,7 +44,7 @@ pub(crate) fn key_statement(
 ) -> Result<Progress, LineStop>
     requires inside { at ≤ length line.now }
     requires utf8 { IsUtf8 line.now }
-    ensures { IsSo (KeySays keys line.now at) result }
+    ensures { AnswersLine (KeySays keys line.now at) result }
 {
     let (name, end) = match read_name(alloc, line, at) {
         Ok(read) => read,
@@ -80,7 +80,7 @@ pub(crate) fn typed_statement(
 ) -> Result<OpenKey, LineStop>
     requires inside { at ≤ length line.now }
     requires utf8 { IsUtf8 line.now }
-    ensures { IsSo (TypedSays sigil key line.now at) result }
+    ensures { AnswersLine (TypedSays sigil key line.now at) result }
 {
     let (name, end) = match read_variable(alloc, sigil, line, at) {
         Ok(read) => read,
@@ -96,8 +96,8 @@ pub(crate) fn typed_statement(
     declare(key, typed_slot(sigil, name, kind))
 }
 
-fn value_slot(folded: bool, name: Text) -> KeySlot
-    ensures { result ≡ value_slot folded name }
+fn slot_of_value(folded: bool, name: Text) -> KeySlot
+    ensures { result ≡ slot_of_value folded name }
 {
     if folded {
         KeySlot::Folded(name)
@@ -115,7 +115,7 @@ pub(crate) fn value_statement(
     at: usize,
 ) -> Result<OpenKey, LineStop>
     requires { at ≤ length line.now }
-    ensures { IsSo (ValueSays folded key line.now at) result }
+    ensures { AnswersLine (ValueSays folded key line.now at) result }
 {
     let (name, end) = match read_variable(alloc, b'$', line, at) {
         Ok(read) => read,
@@ -124,5 +124,5 @@ pub(crate) fn value_statement(
     if !closes(line, end) {
         return Err(LineStop::Fault(KeyFault::UnknownStatement));
     }
-    declare(key, value_slot(folded, name))
+    declare(key, slot_of_value(folded, name))
 }

@@ -5,10 +5,10 @@ ghost use Rattle.std.specs.List.{list_all, range_with_len};
 ghost use Rattle.key_file.specs.declared.slot.KeySlot.TheVariants.{Fixed};
 ghost use Rattle.key_file.specs.Key.{is_used};
 ghost use Rattle.key_file.specs.KeyFile.{has_name};
-ghost use Rattle.key_lang.specs.Answers.{Is, IsSo};
-ghost use Rattle.key_lang.specs.OpenKey.{slot_of, key_edge, finish};
+ghost use Rattle.key_lang.specs.Answers.{Is, AnswersLine};
+ghost use Rattle.key_lang.specs.OpenKey.{slot_of_end, key_edge, finish};
 ghost use Rattle.key_lang.specs.Fair.{IsFair, IsFairBeside};
-ghost use Rattle.key_lang.specs.Statements.{EndSays};
+ghost use Rattle.key_lang.specs.Statements.{KeyEndSays};
 
 use crate::fault::{KeyFault, LineStop};
 use crate::open_key::{End, OpenEdge, OpenKey, Progress};
@@ -29,9 +29,9 @@ fn slots(variables: Vec<KeySlot>, constants: Vec<Term>) -> Result<Vec<KeySlot>, 
 }
 
 /// The slot of an end, where a key has so many variables.
-fn slot_of(variables: usize, end: End) -> usize
-    requires { slot_of variables end < 256 }
-    ensures { result ≡ slot_of variables end }
+fn slot_of_end(variables: usize, end: End) -> usize
+    requires { slot_of_end variables end < 256 }
+    ensures { result ≡ slot_of_end variables end }
 {
     match end {
         End::Variable(place) => place,
@@ -42,14 +42,14 @@ fn slot_of(variables: usize, end: End) -> usize
 /// A triple between slots, where a key has so many variables.
 fn key_edge(variables: usize, edge: OpenEdge) -> KeyEdge
     requires from { edge.from < 256 }
-    requires to { slot_of variables edge.to < 256 }
+    requires to { slot_of_end variables edge.to < 256 }
     ensures { result ≡ key_edge variables edge }
 {
     let OpenEdge { from, pred, to } = edge;
     KeyEdge {
         from: from as u8,
         pred,
-        to: slot_of(variables, to) as u8,
+        to: slot_of_end(variables, to) as u8,
     }
 }
 
@@ -59,7 +59,7 @@ fn key_edges(
     variables: usize,
     edges: Vec<OpenEdge>,
 ) -> Result<Vec<KeyEdge>, NoMemory>
-    requires { All (λ e. (e.from < 256) × (slot_of variables e.to < 256)) edges.items }
+    requires { All (λ e. (e.from < 256) × (slot_of_end variables e.to < 256)) edges.items }
     ensures { IfOk result (λ made. made.items ≡ map (key_edge variables) edges.items) }
 {
     let mut made = Vec::with_capacity(alloc, edges.len())?;
@@ -79,7 +79,7 @@ fn all_used(edges: &[KeyEdge], slots: usize) -> bool
 /// The key that ends.
 fn finish(alloc: Global, key: OpenKey) -> Result<KeyDef, LineStop>
     requires { IsFair key }
-    ensures { IsSo (Is (finish key)) result }
+    ensures { AnswersLine (Is (finish key)) result }
 {
     if key.edges.as_slice().is_empty() {
         return Err(LineStop::Fault(KeyFault::KeyWithoutTriples));
@@ -112,7 +112,7 @@ pub(crate) fn end_statement(
 ) -> Result<Progress, LineStop>
     requires inside { at ≤ length line.now }
     requires fair { IsFairBeside keys key }
-    ensures { IsSo (EndSays keys key line.now at) result }
+    ensures { AnswersLine (KeyEndSays keys key line.now at) result }
 {
     if !closes(line, at) {
         return Err(LineStop::Fault(KeyFault::UnknownStatement));

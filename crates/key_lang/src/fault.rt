@@ -1,45 +1,58 @@
 //! What may be wrong with a key file.
 
 ghost use Rattle.std.specs.Prelude.{◌≡◌};
-ghost use Rattle.key_lang.specs.Faults.{key_fault_text};
+ghost use Rattle.key_lang.specs.Faults.{key_fault_text, fault_of_term};
 
 use gk_base::{LexFault, NoMemory};
 use std::alloc::{AllocError, AllocFailed};
 
-/// What is wrong with a line of a key file.
+/// What is wrong with a line of a key file. The first seven are faults of terms, which stand in key files as in
+/// N-Triples.
 #[derive(Clone, Copy, Debug, PartialEq, Eq)]
 pub enum KeyFault {
-    /// Faults 1, 7 to 10 and 12: the line is not UTF-8, or a term stands in it that is none.
-    Lex(LexFault),
-    /// Fault 21: it is none of the statements, or more than one.
+    /// The line is not UTF-8.
+    NotUtf8,
+    /// Where an IRI must stand is no `<`, or inside it stands a character that may not stand there raw, or the line ends.
+    BadIri,
+    /// The IRI does not begin with a scheme.
+    RelativeIri,
+    /// After a backslash stands no escape that is allowed there, or one that names no character.
+    BadEscape,
+    /// The line ends inside a string.
+    StringNotClosed,
+    /// After `_` stands no colon with a first character of a label. In a key file `_` begins a wildcard, so no line has it.
+    BadBlankNodeLabel,
+    /// After `@` stands no letter, or after a dash of the tag neither letter nor digit.
+    BadLanguageTag,
+    /// The line is none of the statements, or more than one.
     UnknownStatement,
-    /// Fault 22: a name is missing, is malformed or has the wrong sigil.
+    /// A name is missing, is malformed or has the wrong sigil.
     BadName,
-    /// Fault 23: an earlier key has the name.
+    /// An earlier key has the name.
     NameUsedTwice,
-    /// Fault 24: a key begins inside a key, or any other statement stands outside one.
+    /// A key begins inside a key, or any other statement stands outside one.
     StatementOutOfPlace,
-    /// Fault 25: an earlier line of the key declares the variable.
+    /// An earlier line of the key declares the variable.
     VariableDeclaredTwice,
-    /// Fault 26: no earlier line of the key declares the variable.
+    /// No earlier line of the key declares the variable.
     VariableNotDeclared,
-    /// Fault 27: a triple begins with a value variable, an IRI or a literal.
+    /// A triple begins with a value variable, an IRI or a literal.
     SubjectMustBeAnEntityVariableOrWildcard,
-    /// Fault 28: the line makes a 17th variable or constant of the key.
+    /// The line makes a 17th variable or constant of the key.
     TooManyNodes,
-    /// Fault 29: the line makes a 33rd triple of the key.
+    /// The line makes a 33rd triple of the key.
     TooManyTriplesInKey,
-    /// Fault 30: the key ends with no triple.
+    /// The key ends with no triple.
     KeyWithoutTriples,
-    /// Fault 31: the key ends with a variable that stands in no triple.
+    /// The key ends with a variable that stands in no triple.
     VariableNotUsed,
-    /// Fault 32: the key ends, and its triples do not join all its variables and constants.
+    /// The key ends, and its triples do not join all its variables and constants.
     NotConnected,
-    /// Fault 33: the file ends before the key does.
+    /// The file ends before the key does.
     FileEndsInsideAKey,
-    /// Fault 34: it begins a 65th key.
+    /// The line begins a 65th key.
     TooManyKeys,
-    /// Fault 35: the byte after the limit of bytes belongs to it.
+    /// The byte after the limit of bytes belongs to the line.
     FileTooLong,
 }
 
@@ -49,7 +62,13 @@ impl KeyFault {
         ensures { result.now ≡ key_fault_text self }
     {
         match self {
-            KeyFault::Lex(fault) => fault.text(),
+            KeyFault::NotUtf8 => b"not UTF-8",
+            KeyFault::BadIri => b"bad IRI",
+            KeyFault::RelativeIri => b"relative IRI",
+            KeyFault::BadEscape => b"bad escape",
+            KeyFault::StringNotClosed => b"string not closed",
+            KeyFault::BadBlankNodeLabel => b"bad blank node label",
+            KeyFault::BadLanguageTag => b"bad language tag",
             KeyFault::UnknownStatement => b"unknown statement",
             KeyFault::BadName => b"bad name",
             KeyFault::NameUsedTwice => b"name used twice",
@@ -68,6 +87,27 @@ impl KeyFault {
             KeyFault::TooManyKeys => b"too many keys",
             KeyFault::FileTooLong => b"file too long",
         }
+    }
+}
+
+/// What a fault of N-Triples is in a key file. No term has the faults of whole lines; with one of them a line of a key file
+/// would be no statement.
+pub(crate) fn fault_of_term(fault: LexFault) -> KeyFault
+    ensures { result ≡ fault_of_term fault }
+{
+    match fault {
+        LexFault::NotUtf8 => KeyFault::NotUtf8,
+        LexFault::BadIri => KeyFault::BadIri,
+        LexFault::RelativeIri => KeyFault::RelativeIri,
+        LexFault::BadEscape => KeyFault::BadEscape,
+        LexFault::StringNotClosed => KeyFault::StringNotClosed,
+        LexFault::BadBlankNodeLabel => KeyFault::BadBlankNodeLabel,
+        LexFault::BadLanguageTag => KeyFault::BadLanguageTag,
+        LexFault::SubjectExpected
+        | LexFault::PredicateExpected
+        | LexFault::ObjectExpected
+        | LexFault::DotExpected
+        | LexFault::TextAfterTheDot => KeyFault::UnknownStatement,
     }
 }
 

@@ -1,10 +1,10 @@
 //! One line.
 
 ghost use Rattle.std.specs.Prelude.{◌≡◌, ◌≤◌, length, IsUtf8};
-ghost use Rattle.key_lang.specs.Answers.{IsSo};
+ghost use Rattle.key_lang.specs.Answers.{AnswersLine};
 ghost use Rattle.key_lang.specs.Parts.{reopened_by};
 ghost use Rattle.key_lang.specs.Fair.{IsFairBeside, IsFairState};
-ghost use Rattle.key_lang.specs.Statements.{OutsideSays, InsideSays, begins_triple, StatementSays, LineSays};
+ghost use Rattle.key_lang.specs.Statements.{OutsideSays, InsideSays, begins_triple, StatementSays, KeyLineSays};
 
 use crate::declarations::{key_statement, typed_statement, value_statement};
 use crate::endings::end_statement;
@@ -13,7 +13,6 @@ use crate::keyword::{Keyword, keyword_of};
 use crate::open_key::{OpenKey, Progress};
 use crate::tokens::{byte_at, is_over, word_end};
 use crate::triples::triple_statement;
-use gk_base::LexFault;
 use key_file::KeyFile;
 use nt_lex::skip_space;
 use std::alloc::Global;
@@ -44,7 +43,7 @@ fn outside_statement(
 ) -> Result<Progress, LineStop>
     requires inside { at ≤ length line.now }
     requires utf8 { IsUtf8 line.now }
-    ensures { IsSo (OutsideSays keys word line.now at) result }
+    ensures { AnswersLine (OutsideSays keys word line.now at) result }
 {
     if word != Keyword::Key {
         return Err(LineStop::Fault(KeyFault::StatementOutOfPlace));
@@ -67,7 +66,7 @@ fn inside_statement(
     requires inside { at ≤ length line.now }
     requires utf8 { IsUtf8 line.now }
     requires fair { IsFairBeside keys key }
-    ensures { IsSo (InsideSays keys key word line.now at) result }
+    ensures { AnswersLine (InsideSays keys key word line.now at) result }
 {
     match word {
         Keyword::Key => Err(LineStop::Fault(KeyFault::StatementOutOfPlace)),
@@ -91,7 +90,7 @@ fn statement(alloc: Global, state: Progress, line: &[u8], at: usize) -> Result<P
     requires inside { at ≤ length line.now }
     requires utf8 { IsUtf8 line.now }
     requires fair { IsFairState state }
-    ensures { IsSo (StatementSays state line.now at) result }
+    ensures { AnswersLine (StatementSays state line.now at) result }
 {
     let Progress { keys, current } = state;
     if begins_triple(byte_at(line, at)) {
@@ -113,10 +112,10 @@ fn statement(alloc: Global, state: Progress, line: &[u8], at: usize) -> Result<P
 /// The file after one more line, which has no line feed and no carriage return.
 pub(crate) fn after_line(alloc: Global, state: Progress, line: &[u8]) -> Result<Progress, LineStop>
     requires { IsFairState state }
-    ensures { IsSo (LineSays state line.now) result }
+    ensures { AnswersLine (KeyLineSays state line.now) result }
 {
     if !simdutf8::is_utf8(line) {
-        return Err(LineStop::Fault(KeyFault::Lex(LexFault::NotUtf8)));
+        return Err(LineStop::Fault(KeyFault::NotUtf8));
     }
     let at = skip_space(line, 0);
     if is_over(line, at) {

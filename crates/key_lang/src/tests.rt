@@ -2,7 +2,7 @@ mod files;
 
 use crate::{KeyFault, KeyFile, KeyRefusal, KeyStop, put_keys, read_keys};
 use files::FILES;
-use gk_base::{LexFault, NoMemory};
+use gk_base::NoMemory;
 use std::alloc::{AllocError, Global};
 use std::test::Fail;
 
@@ -233,7 +233,7 @@ fn a_key_has_32_triples(rt: HostRuntime) -> Result<(), Fail> {
 
 /// Some faults and their texts.
 static FAULTS: [(KeyFault, &[u8]); 5] = [
-    (KeyFault::Lex(LexFault::RelativeIri), b"relative IRI"),
+    (KeyFault::RelativeIri, b"relative IRI"),
     (KeyFault::UnknownStatement, b"unknown statement"),
     (
         KeyFault::SubjectMustBeAnEntityVariableOrWildcard,

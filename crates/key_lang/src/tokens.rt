@@ -3,12 +3,12 @@
 ghost use Rattle.std.specs.Prelude.{◌≡◌, ◌≤◌, length, slice_index, IsUtf8, IfOk};
 ghost use Rattle.std.specs.List.{list_all};
 ghost use Rattle.nt_lex.specs.Scans.{IsRunAt};
-ghost use Rattle.key_lang.specs.Answers.{IsSo};
+ghost use Rattle.key_lang.specs.Answers.{AnswersLine};
 ghost use Rattle.key_lang.specs.Parts.{ClosesHere, in_key_file};
 ghost use Rattle.key_lang.specs.Tokens.{Skipping, is_word_byte, is_over, is_name_byte, is_name, is_variable, NameSays, VariableSays, IriSays, ConstantSays};
 
-use crate::fault::{KeyFault, LineStop};
-use gk_base::{LexFault, LexStop, Term, Text};
+use crate::fault::{KeyFault, LineStop, fault_of_term};
+use gk_base::{LexStop, Term, Text};
 use nt_lex::{read_iri, read_literal, skip_space};
 use std::alloc::Global;
 
@@ -79,7 +79,7 @@ fn is_variable(sigil: u8, word: &[u8]) -> bool
 /// Reads the name after tabs and spaces, and gives the place after it.
 pub(crate) fn read_name(alloc: Global, line: &[u8], at: usize) -> Result<(Text, usize), LineStop>
     requires { at ≤ length line.now }
-    ensures so { IsSo (Skipping line.now at (NameSays line.now)) result }
+    ensures so { AnswersLine (Skipping line.now at (NameSays line.now)) result }
     ensures within { IfOk result (λ r. r.1 ≤ length line.now) }
 {
     let begin = skip_space(line, at);
@@ -99,7 +99,7 @@ pub(crate) fn read_variable(
     at: usize,
 ) -> Result<(Text, usize), LineStop>
     requires { at ≤ length line.now }
-    ensures so { IsSo (Skipping line.now at (VariableSays sigil line.now)) result }
+    ensures so { AnswersLine (Skipping line.now at (VariableSays sigil line.now)) result }
     ensures within { IfOk result (λ r. r.1 ≤ length line.now) }
 {
     let begin = skip_space(line, at);
@@ -118,7 +118,7 @@ fn lexed(answer: Result<(Term, usize), LexStop>) -> Result<(Term, usize), LineSt
     match answer {
         Ok(read) => Ok(read),
         Err(LexStop::NoMemory) => Err(LineStop::NoMemory),
-        Err(LexStop::Fault(fault)) => Err(LineStop::Fault(KeyFault::Lex(fault))),
+        Err(LexStop::Fault(fault)) => Err(LineStop::Fault(fault_of_term(fault))),
     }
 }
 
@@ -126,14 +126,14 @@ fn lexed(answer: Result<(Term, usize), LexStop>) -> Result<(Term, usize), LineSt
 pub(crate) fn read_type(alloc: Global, line: &[u8], at: usize) -> Result<(Term, usize), LineStop>
     requires inside { at ≤ length line.now }
     requires utf8 { IsUtf8 line.now }
-    ensures so { IsSo (Skipping line.now at (IriSays line.now)) result }
+    ensures so { AnswersLine (Skipping line.now at (IriSays line.now)) result }
     ensures within { IfOk result (λ r. r.1 ≤ length line.now) }
 {
     let begin = skip_space(line, at);
     if byte_at(line, begin) == b'<' {
         lexed(read_iri(alloc, line, begin))
     } else {
-        Err(LineStop::Fault(KeyFault::Lex(LexFault::BadIri)))
+        Err(LineStop::Fault(KeyFault::BadIri))
     }
 }
 
@@ -144,7 +144,7 @@ pub(crate) fn read_constant(
     at: usize,
 ) -> Result<(Term, usize), LineStop>
     requires { IsUtf8 line.now }
-    ensures so { IsSo (ConstantSays line.now at) result }
+    ensures so { AnswersLine (ConstantSays line.now at) result }
     ensures within { IfOk result (λ r. r.1 ≤ length line.now) }
 {
     match byte_at(line, at) {

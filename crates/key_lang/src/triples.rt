@@ -3,10 +3,10 @@
 ghost use Rattle.std.specs.Prelude.{◌≡◌, ◌<◌, ◌≤◌, length, position, IsUtf8, IfOk};
 ghost use Rattle.std.specs.List.{list_any};
 ghost use Rattle.term_table.specs.Numbering.{same_term};
-ghost use Rattle.key_lang.specs.Answers.{Is, IsSo};
+ghost use Rattle.key_lang.specs.Answers.{Is, AnswersLine};
 ghost use Rattle.key_lang.specs.Tokens.{Skipping};
-ghost use Rattle.key_lang.specs.OpenKey.{same_end, same_triple, add, placed, link};
-ghost use Rattle.key_lang.specs.Statements.{is_sigil, DeclaredObjectSays, GivenObjectSays, SubjectSays, ObjectSays, TripleSays};
+ghost use Rattle.key_lang.specs.OpenKey.{same_end, same_triple, add, placed_constant, link};
+ghost use Rattle.key_lang.specs.Statements.{is_sigil, DeclaredObjectSays, GivenObjectSays, KeySubjectSays, ObjectSays, TripleSays};
 
 use crate::fault::{KeyFault, LineStop};
 use crate::open_key::{End, Object, OpenEdge, OpenKey};
@@ -48,7 +48,7 @@ fn place_of(constants: &[Term], term: &Term) -> Option<usize>
 
 /// The key with this triple, which it may have already.
 fn add(key: OpenKey, edge: OpenEdge) -> Result<OpenKey, LineStop>
-    ensures { IsSo (Is (add key edge)) result }
+    ensures { AnswersLine (Is (add key edge)) result }
 {
     if has_triple(&key.edges, &edge) {
         return Ok(key);
@@ -63,7 +63,7 @@ fn add(key: OpenKey, edge: OpenEdge) -> Result<OpenKey, LineStop>
 
 /// The key with this constant, which it may have already, and the constant's place.
 fn with_constant(key: OpenKey, term: Term) -> Result<(OpenKey, usize), LineStop>
-    ensures { IsSo (Is (placed key term)) result }
+    ensures { AnswersLine (Is (placed_constant key term)) result }
 {
     if let Some(place) = place_of(&key.constants, &term) {
         return Ok((key, place));
@@ -79,7 +79,7 @@ fn with_constant(key: OpenKey, term: Term) -> Result<(OpenKey, usize), LineStop>
 
 /// The key with a triple to this object.
 fn link(key: OpenKey, from: usize, pred: Term, object: Object) -> Result<OpenKey, LineStop>
-    ensures { IsSo (Is (link key from pred object)) result }
+    ensures { AnswersLine (Is (link key from pred object)) result }
 {
     match object {
         Object::Declared(place) => {
@@ -98,7 +98,7 @@ fn link(key: OpenKey, from: usize, pred: Term, object: Object) -> Result<OpenKey
 
 fn read_subject(key: &OpenKey, line: &[u8], at: usize) -> Result<(usize, usize), LineStop>
     requires { at ≤ length line.now }
-    ensures so { IsSo (SubjectSays key.now line.now at) result }
+    ensures so { AnswersLine (KeySubjectSays key.now line.now at) result }
     ensures within { IfOk result (λ r. r.1 ≤ length line.now) }
 {
     match byte_at(line, at) {
@@ -115,7 +115,7 @@ fn is_sigil(byte: u8) -> bool
 
 fn read_declared_object(key: &OpenKey, line: &[u8], at: usize) -> Result<(Object, usize), LineStop>
     requires { at ≤ length line.now }
-    ensures so { IsSo (DeclaredObjectSays key.now line.now at) result }
+    ensures so { AnswersLine (DeclaredObjectSays key.now line.now at) result }
     ensures within { IfOk result (λ r. r.1 ≤ length line.now) }
 {
     match read_declared(key, line, at) {
@@ -126,7 +126,7 @@ fn read_declared_object(key: &OpenKey, line: &[u8], at: usize) -> Result<(Object
 
 fn read_given_object(alloc: Global, line: &[u8], at: usize) -> Result<(Object, usize), LineStop>
     requires { IsUtf8 line.now }
-    ensures so { IsSo (GivenObjectSays line.now at) result }
+    ensures so { AnswersLine (GivenObjectSays line.now at) result }
     ensures within { IfOk result (λ r. r.1 ≤ length line.now) }
 {
     match read_constant(alloc, line, at) {
@@ -144,7 +144,7 @@ fn read_object(
 ) -> Result<(Object, usize), LineStop>
     requires inside { at ≤ length line.now }
     requires utf8 { IsUtf8 line.now }
-    ensures so { IsSo (Skipping line.now at (ObjectSays key.now line.now)) result }
+    ensures so { AnswersLine (Skipping line.now at (ObjectSays key.now line.now)) result }
     ensures within { IfOk result (λ r. r.1 ≤ length line.now) }
 {
     let begin = skip_space(line, at);
@@ -164,7 +164,7 @@ pub(crate) fn triple_statement(
 ) -> Result<OpenKey, LineStop>
     requires inside { at ≤ length line.now }
     requires utf8 { IsUtf8 line.now }
-    ensures { IsSo (TripleSays key line.now at) result }
+    ensures { AnswersLine (TripleSays key line.now at) result }
 {
     let (from, end) = match read_subject(&key, line, at) {
         Ok(read) => read,

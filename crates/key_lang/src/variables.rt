@@ -2,7 +2,7 @@
 
 ghost use Rattle.std.specs.Prelude.{◌≡◌, ◌+◌, ◌<◌, ◌≤◌, ◌^◌, length, position, IfOk};
 ghost use Rattle.std.specs.List.{list_any};
-ghost use Rattle.key_lang.specs.Answers.{Is, IsSo};
+ghost use Rattle.key_lang.specs.Answers.{Is, AnswersLine};
 ghost use Rattle.key_lang.specs.OpenKey.{nodes, sigil_of, slot_name, is_named_so, declare};
 ghost use Rattle.key_lang.specs.Statements.{DeclaredSays};
 
@@ -64,7 +64,7 @@ fn place_of(variables: &[KeySlot], sigil: u8, name: &[u8]) -> Option<usize>
 
 /// The key with one more variable.
 pub(crate) fn declare(key: OpenKey, slot: KeySlot) -> Result<OpenKey, LineStop>
-    ensures { IsSo (Is (declare key slot)) result }
+    ensures { AnswersLine (Is (declare key slot)) result }
 {
     if has_variable(&key.variables, sigil_of(&slot), slot_name(&slot)) {
         return Err(LineStop::Fault(KeyFault::VariableDeclaredTwice));
@@ -84,7 +84,7 @@ pub(crate) fn read_declared(
     at: usize,
 ) -> Result<(usize, usize), LineStop>
     requires { at ≤ length line.now }
-    ensures so { IsSo (DeclaredSays key.now line.now at) result }
+    ensures so { AnswersLine (DeclaredSays key.now line.now at) result }
     ensures within { IfOk result (λ r. r.1 ≤ length line.now) }
 {
     let end = word_end(line, at);

@@ -17,5 +17,5 @@ Gives (Err NoMemory) answer = Unit {0}
 Gives (Err (Fault fault)) answer = Err fault ≡ answer
 
 -- at most one answer is to be given
-abbrev pub HasOne : {A : Type 0} → (Result A LexFault → Type 0) → Type 0
-HasOne {A} Says = (a b : Result A LexFault) → Says a → Says b → a ≡ b
+abbrev pub HasOne : {A F : Type 0} → (Result A F → Type 0) → Type 0
+HasOne {A} {F} Says = (a b : Result A F) → Says a → Says b → a ≡ b

@@ -11,7 +11,7 @@ use Rattle.gk_base.specs.declared.read_fault.ReadFault.TheVariants.{TooLong}
 use Rattle.gk_base.specs.declared.read_fault.ReadRefusal.{ReadRefusal}
 use Rattle.nt_reader.specs.Line.{LineSays}
 use Rattle.nt_reader.specs.Lines.{Cut, cut_of, last_of}
-use Rattle.nt_reader.specs.File.{itself, IsGood, AreGood, IsRefused, judged, line_of_next, Refuses}
+use Rattle.nt_reader.specs.File.{itself, IsGood, AreGood, RefusesLine, judged, line_of_next, Refuses}
 use Rattle.nt_reader.proofs.CutLemmas.{cut_append, ended_grows}
 
 zip_push : (ls : List (List ℕ)) (bs : List (Option Triple)) (l : List ℕ) (a : Option Triple) → AllZip IsGood ls bs → IsGood l a → AllZip IsGood (ls ++ l ∷ []) (bs ++ a ∷ [])
@@ -52,7 +52,7 @@ judged_front most bytes more within =
 -- a line that ended within the limit is refused, whatever follows
 pub refused_for_good : (limits : Limits) (bytes : List ℕ) (good : List (List ℕ)) (bad : List ℕ) (triples : List Triple) (refusal : ReadRefusal)
     → length bytes ≤ limits.bytes → (cut_of bytes).ended ≡ good ++ bad ∷ [] → AreGood good triples → length triples ≤ limits.triples
-    → refusal.line ≡ length good + 1 → IsRefused limits.triples triples bad refusal.fault → Refuses limits bytes refusal
+    → refusal.line ≡ length good + 1 → RefusesLine limits.triples triples bad refusal.fault → Refuses limits bytes refusal
 refused_for_good limits bytes good bad triples refusal within ended g few number refused = record {
   always = λ more.
       let f = judged_front limits.bytes bytes more within in

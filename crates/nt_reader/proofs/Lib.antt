@@ -6,3 +6,4 @@ pub mod StateLemmas
 pub mod OneFile
 pub mod LinedLemmas
 pub mod TotalLemmas
+pub mod OpenLemmas

@@ -11,7 +11,7 @@ use Rattle.gk_base.specs.declared.read_fault.ReadFault.TheVariants.{Lex}
 use Rattle.gk_base.specs.declared.read_fault.ReadRefusal.{ReadRefusal}
 use Rattle.nt_reader.specs.Line.{LineSays}
 use Rattle.nt_reader.specs.Lines.{cut_of, lines}
-use Rattle.nt_reader.specs.File.{itself, IsGood, AreGood, IsRefused, StopsIn, judged, IsTooLong, FileSays}
+use Rattle.nt_reader.specs.File.{itself, IsGood, AreGood, RefusesLine, StopsIn, judged, IsTooLong, FileSays}
 use Rattle.nt_reader.proofs.LineLemmas.{line_once}
 
 said_same : (x y : Option Triple) → Path (Result (Option Triple) LexFault) (Ok x) (Ok y) → x ≡ y
@@ -42,7 +42,7 @@ good_once content s t x y = x.have ∙ ap told (answers_once content x.answers y
 
 -- a refused line is not a good one, under a limit that the whole keeps
 refused_good : (most : ℕ) (before : List Triple) (bad : List ℕ) (fault : ReadFault) (a : Option Triple) (more : List (Option Triple))
-    → IsRefused most before bad fault → LineSays bad (Ok a) → length (before ++ told (a ∷ more)) ≤ most → ⊥
+    → RefusesLine most before bad fault → LineSays bad (Ok a) → length (before ++ told (a ∷ more)) ≤ most → ⊥
 refused_good most before bad fault a more r good few = elim r.why [
   | inl x ↦ said_err a x.0 (line_once bad (Ok a) (Err x.0) good x.1)
   | inr x ↦
@@ -51,7 +51,7 @@ refused_good most before bad fault a more r good few = elim r.why [
       omega (arith, x.2, few, ap length shown, length-append before (told (a ∷ more)))
 ]
 
-fault_once : (most : ℕ) (before : List Triple) (bad : List ℕ) (f g : ReadFault) → IsRefused most before bad f → IsRefused most before bad g → f ≡ g
+fault_once : (most : ℕ) (before : List Triple) (bad : List ℕ) (f g : ReadFault) → RefusesLine most before bad f → RefusesLine most before bad g → f ≡ g
 fault_once most before bad f g x y = elim x.why [
   | inl a ↦ elim y.why [
     | inl b ↦ a.2 ∙ ap Lex (err_same a.0 b.0 (line_once bad (Err a.0) (Err b.0) a.1 b.1)) ∙ sym b.2
@@ -90,7 +90,7 @@ split (g ∷ good) bad more (a ∷ answers) z = split_more g bad good a answers 
 
 -- where all lines are good and few, none of them is refused
 good_conflict : (most : ℕ) (content good : List (List ℕ)) (bad : List ℕ) (more : List (List ℕ)) (all before : List Triple) (fault : ReadFault)
-    → content ≡ good ++ bad ∷ more → AreGood content all → length all ≤ most → AreGood good before → IsRefused most before bad fault → ⊥
+    → content ≡ good ++ bad ∷ more → AreGood content all → length all ≤ most → AreGood good before → RefusesLine most before bad fault → ⊥
 good_conflict most content good bad more all before fault e g few h r =
     let s = split good bad more g.answers (subst (λ (l : List (List ℕ)). AllZip IsGood l g.answers) e g.each) in
     let front : before ≡ told s.front = h.have ∙ ap told (answers_once good h.answers s.front h.each s.each) in
@@ -125,7 +125,7 @@ stops_of : (most : ℕ) (content : List (List ℕ)) (r s : ReadRefusal) (x : Sto
 stops_of most content r s x y (same p q) =
     let triples : x.triples ≡ y.triples = good_once y.good x.triples y.triples (subst (λ (l : List (List ℕ)). AreGood l x.triples) p x.before) y.before in
     refusals r s (x.number ∙ ap (λ (l : List (List ℕ)). length l + 1) p ∙ sym y.number)
-    (fault_once most y.triples y.bad r.fault s.fault (subst (λ (t : List Triple). IsRefused most t y.bad r.fault) triples (subst (λ (l : List ℕ). IsRefused most x.triples l r.fault) q x.refused)) y.refused)
+    (fault_once most y.triples y.bad r.fault s.fault (subst (λ (t : List Triple). RefusesLine most t y.bad r.fault) triples (subst (λ (l : List ℕ). RefusesLine most x.triples l r.fault) q x.refused)) y.refused)
 stops_of most content r s x y (before k p) = absurd (good_conflict most y.good x.good x.bad k y.triples x.triples r.fault p y.before y.few x.before x.refused)
 stops_of most content r s x y (after k p) = absurd (good_conflict most x.good y.good y.bad k x.triples y.triples s.fault p x.before x.few y.before y.refused)
 

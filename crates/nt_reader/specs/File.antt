@@ -26,7 +26,7 @@ pub record AreGood (content : List (List ℕ)) (triples : List Triple) : Type 0 
   pub have : triples ≡ filter_map itself answers
 
 -- after lines with these triples, this line is refused: it is faulty, or it has a triple when there are as many as may be
-pub record IsRefused (most : ℕ) (triples : List Triple) (line : List ℕ) (fault : ReadFault) : Type 0 where
+pub record RefusesLine (most : ℕ) (triples : List Triple) (line : List ℕ) (fault : ReadFault) : Type 0 where
   pub why : ((f : LexFault) × LineSays line (Err f) × (fault ≡ Lex f))
       ⊎ ((triple : Triple) × LineSays line (Ok (Some triple)) × (most ≤ length triples) × (fault ≡ TooManyTriples))
 
@@ -40,7 +40,7 @@ pub record StopsIn (most : ℕ) (content : List (List ℕ)) (refusal : ReadRefus
   pub before : AreGood good triples
   pub few : length triples ≤ most
   pub number : refusal.line ≡ length good + 1
-  pub refused : IsRefused most triples bad refusal.fault
+  pub refused : RefusesLine most triples bad refusal.fault
 
 -- the lines that are judged: those that end within the limit of bytes, and the last one where the whole text is within it
 abbrev pub judged : ℕ → List ℕ → List (List ℕ)
@@ -69,3 +69,7 @@ FileSays limits bytes (Err refusal) = StopsIn limits.triples (judged limits.byte
 -- a file that begins so is refused so, whatever follows
 pub record Refuses (limits : Limits) (bytes : List ℕ) (refusal : ReadRefusal) : Type 0 where
   pub always : (more : List ℕ) → FileSays limits (bytes ++ more) (Err refusal)
+
+-- no file that begins so is refused for what it begins with
+abbrev pub IsOpen : Limits → List ℕ → Type 0
+IsOpen limits bytes = (refusal : ReadRefusal) → ¬ (Refuses limits bytes refusal)

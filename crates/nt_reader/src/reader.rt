@@ -1,14 +1,23 @@
 //! A file in pieces.
 
-ghost use Rattle.std.specs.Prelude.{◌≡◌, ℕ, ◌≤◌, ◌+◌, ◌<◌, ◌^◌, ◌↔◌, true, false, List, [], ◌++◌, length, OnOk, IfErr, IsOk, IsTrue, Err};
+ghost use Rattle.std.specs.Prelude.{◌≡◌, ◌≢◌, ℕ, ◌≤◌, ◌+◌, ◌<◌, ◌^◌, ◌↔◌, List, [], ◌++◌, length, IfErr, IsOk, Err};
+ghost use Rattle.gk_base.specs.declared.term.Triple.{Triple};
+ghost use Rattle.gk_base.specs.declared.read_fault.ReadRefusal.{ReadRefusal};
+ghost use Rattle.gk_base.specs.declared.read_fault.ReadStop.{ReadStop};
+ghost use Rattle.gk_base.specs.declared.read_fault.ReadStop.TheVariants.{NoMemory, Refused};
+ghost use Rattle.nt_reader.specs.Lines.{cut_of};
+ghost use Rattle.nt_reader.specs.File.{AreGood, Refuses, IsOpen};
+ghost use Rattle.nt_reader.specs.Kept.{HasRead, FinishSays};
 
 use crate::state::{State, end_line, feed_state};
 use gk_base::{Limits, ReadStop};
 use std::alloc::Global;
+use std::marker::Model;
 use std::mem;
 use term_list::Triples;
 
-/// Reads a file that comes in pieces. Only a line that no piece holds whole is kept.
+/// Reads a file that comes in pieces. Only a line that no piece holds whole is kept. Contracts see the limits, and what
+/// is kept of the pieces so far, or why a call has failed.
 #[derive(Drop)]
 pub struct Reader {
     alloc: Global,
@@ -18,24 +27,26 @@ pub struct Reader {
     running: bool,
     /// Why a call failed, where one has.
     stop: ReadStop,
-    ghost small: { limits.bytes + 1 < 2 ^ 64 },
-    ghost room: { IsTrue running → state.bytes ≤ limits.bytes },
-    ghost few: { IsTrue running → state.line ≤ state.bytes + 1 },
+}
+
+impl Model for Reader {
+    ghost use Rattle.nt_reader.specs.Reading.{Reading, so_far_of, KeepsWithin};
+
+    ghost Value = { Reading };
+
+    ghost view = { λ r. record { limits = r.limits; so_far = so_far_of r.running r.state r.stop } };
+
+    ghost invariant = { λ r. KeepsWithin r.limits r.running r.state };
 }
 
 impl Reader {
-    ghost use Rattle.gk_base.specs.declared.term.Triple.{Triple};
-    ghost use Rattle.nt_reader.specs.File.{AreGood};
-    ghost use Rattle.nt_reader.specs.Lines.{cut_of};
-    ghost use Rattle.nt_reader.specs.Kept.{HasRead, FinishSays};
-
     /// A reader of a file under these limits, of which `bytes` and `triples` count. It takes no memory.
     pub fn new(alloc: Global, limits: &Limits) -> Reader
         requires { limits.now.bytes + 1 < 2 ^ 64 }
         ensures limits { result.limits ≡ limits.now }
         ensures read { HasRead result [] [] }
         // It begins to read, and has not failed.
-        ensures running { result.running ≡ true }
+        ensures running { IsOk result.so_far }
     {
         Reader {
             alloc,
@@ -60,10 +71,15 @@ impl Reader {
         ensures limits { self.new.limits ≡ self.old.limits }
         // Whatever the pieces were, it has now read them and this one.
         ensures read { (taken : List Triple) (seen : List ℕ) → HasRead self.old taken seen → HasRead self.new taken (seen ++ piece.now) }
-        ensures ok { IsOk result ↔ (self.new.running ≡ true) }
-        ensures err { IfErr result (λ stop. stop ≡ self.new.stop) }
-        // What it has once refused, it refuses again.
-        ensures again { self.old.running ≡ false → result ≡ Err self.old.stop }
+        // Where it takes the piece, nothing that was fed so far is refused.
+        ensures open { IsOk result → (taken : List Triple) (seen : List ℕ) → HasRead self.old taken seen → IsOpen self.old.limits (seen ++ piece.now) }
+        // It answers a refusal exactly where that refuses a byte of all that was fed so far, unless memory ran out.
+        ensures refused { result ≢ Err NoMemory → (taken : List Triple) (seen : List ℕ) → HasRead self.old taken seen → (refusal : ReadRefusal) →
+            (result ≡ Err (Refused refusal)) ↔ Refuses self.old.limits (seen ++ piece.now) refusal }
+        ensures ok { IsOk result ↔ IsOk self.new.so_far }
+        ensures err { IfErr result (λ stop. self.new.so_far ≡ Err stop) }
+        // Once it has failed, it fails again for the same reason.
+        ensures again { (stop : ReadStop) → self.old.so_far ≡ Err stop → result ≡ Err stop }
     {
         if !self.running {
             return Err(self.stop);
@@ -83,13 +99,13 @@ impl Reader {
     pub fn take_triples(&mut self, into: &mut Triples)
         requires { into.old ≡ [] }
         ensures limits { self.new.limits ≡ self.old.limits }
-        ensures running { self.new.running ≡ self.old.running }
-        ensures stop { self.new.stop ≡ self.old.stop }
+        ensures running { IsOk self.new.so_far ↔ IsOk self.old.so_far }
+        ensures stop { (stop : ReadStop) → self.old.so_far ≡ Err stop → self.new.so_far ≡ Err stop }
         // With those that were taken before, they are all triples so far.
-        ensures all { self.old.running ≡ true → (taken : List Triple) (seen : List ℕ) → HasRead self.old taken seen →
+        ensures all { IsOk self.old.so_far → (taken : List Triple) (seen : List ℕ) → HasRead self.old taken seen →
             AreGood (cut_of seen).ended (taken ++ into.new) }
         ensures taken { (taken : List Triple) (seen : List ℕ) → HasRead self.old taken seen → HasRead self.new (taken ++ into.new) seen }
-        ensures stopped { self.old.running ≡ false → into.new ≡ [] }
+        ensures stopped { (stop : ReadStop) → self.old.so_far ≡ Err stop → into.new ≡ [] }
     {
         if !self.running {
             return;
@@ -103,7 +119,7 @@ impl Reader {
     /// an end counts where it is not empty.
     pub fn finish(self) -> Result<Triples, ReadStop>
         ensures says { (taken : List Triple) (bytes : List ℕ) → HasRead self taken bytes → FinishSays self.limits taken bytes result }
-        ensures again { self.running ≡ false → result ≡ Err self.stop }
+        ensures again { (stop : ReadStop) → self.so_far ≡ Err stop → result ≡ Err stop }
     {
         let Reader {
             alloc,

@@ -5,7 +5,7 @@ use Rattle.std.proofs.lemmas.List.{take_more, drop-append-le, drop_all, length-t
 use Rattle.std.proofs.lemmas.List.Concat.{flat_map-append}
 use Rattle.std.specs.List.{flat_map}
 use Rattle.term_text.specs.CanonicalText.{unicode_escape}
-use Rattle.term_text.specs.Appending.{BeginsWith, spelled, is_escaped}
+use Rattle.term_text.specs.Appending.{BeginsWith, written_byte, is_escaped}
 use Rattle.term_text.specs.declared.escapes.Inside.{Inside}
 use Rattle.term_text.specs.declared.escapes.Inside.TheVariants.{Brackets, Quotes}
 
@@ -24,7 +24,7 @@ pieces_joined old s p o end a b c d e f ha hb hc hd he hf =
     ∙ ap (λ l. old ++ l) (append_assoc s (32 ∷ []) (p ++ 32 ∷ (o ++ end))))))))
 
 -- a byte that need not be escaped is written as it is
-pub raw_byte : (inside : Inside) (c : ℕ) → is_escaped inside c ≡ false → spelled inside c ≡ c ∷ []
+pub raw_byte : (inside : Inside) (c : ℕ) → is_escaped inside c ≡ false → written_byte inside c ≡ c ∷ []
 raw_byte Brackets c e = ap (λ b. cond b (unicode_escape c) (c ∷ [])) e
 raw_byte Quotes c e =
     let three = or_parts ((eqb c 0x22 || eqb c 0x5C) || eqb c 0x0A) (eqb c 0x0D) e in

@@ -11,7 +11,7 @@ use Rattle.std.proofs.Math.Seq.{ext_get_or}
 use Rattle.chase_laws.specs.Report.{text_at, ordered, line, class_line, report_text}
 use Rattle.term_text.specs.declared.member.Member.{Member}
 use Rattle.term_text.specs.declared.label_counts.LabelCounts.{LabelCounts}
-use Rattle.term_text.specs.Labels.{is_shared_in, count_in, CountsLabels}
+use Rattle.term_text.specs.Labels.{is_shared_in, label_count, CountsLabels}
 use Rattle.term_text.specs.Members.{member_at, members_for, is_before, Prints}
 use Rattle.term_text.specs.Lines.{has_label, rest_text, class_text, lines_after}
 use Rattle.term_text.proofs.Sorting.{ascends_sorted, ascends-filter, ascends-map, one_sort, tied_below}
@@ -255,7 +255,7 @@ sorted_are texts labels often long members up stable =
 pub report_is : (texts : List (List ℕ)) (labels : List ℕ) (counts : LabelCounts) → length labels ≡ length texts → CountsLabels counts labels → (members : List Member) → members ≡ members_for texts labels (is_shared_in counts) → (bytes : List ℕ) → Prints members bytes → bytes ≡ report_text texts (same labels)
 report_is texts labels counts long counted members is bytes printed =
     let often = is_shared_in counts in
-    let single : (l : ℕ) → often l ≡ false → count_by (λ x. eqb l x) labels ≤ 1 = λ l e. omega (arith, ltb-false 1 (count_in counts l) e, counted.count l) in
+    let single : (l : ℕ) → often l ≡ false → count_by (λ x. eqb l x) labels ≤ 1 = λ l e. omega (arith, ltb-false 1 (label_count counts l) e, counted.count l) in
     let kept = filter (λ (n : ℕ). often (get_or labels n 0)) (ordered texts) in
     printed.lines
     ∙ (ap (lines_after []) (sorted_are texts labels often long printed.sorted printed.ascends (subst (λ old. IsStableBy is_before old printed.sorted) is printed.stable))

@@ -11,9 +11,9 @@ pub record BeginsWith (old new : List ℕ) : Type 0 where
   pub is : new ≡ old ++ more
 
 -- a byte as it is written in an IRI or in a string
-abbrev pub spelled : Inside → ℕ → List ℕ
-spelled Brackets c = iri_byte c
-spelled Quotes c = string_byte c
+abbrev pub written_byte : Inside → ℕ → List ℕ
+written_byte Brackets c = iri_byte c
+written_byte Quotes c = string_byte c
 
 -- whether a byte may not stand raw there (IRIREF and STRING_LITERAL_QUOTE of RDF 1.1 N-Triples, section 7)
 abbrev pub is_escaped : Inside → ℕ → Bool

@@ -4,12 +4,12 @@ use Rattle.std.specs.HashMap.{get}
 use Rattle.term_text.specs.declared.label_counts.LabelCounts.{LabelCounts}
 
 -- how often a label is counted
-abbrev pub count_in : LabelCounts → ℕ → ℕ
-count_in counts label = if nat_lt label (length counts.low.items) then slice_index counts.low.items label else unwrap_or (get nat_eq counts.high label) 0
+abbrev pub label_count : LabelCounts → ℕ → ℕ
+label_count counts label = if nat_lt label (length counts.low.items) then slice_index counts.low.items label else unwrap_or (get nat_eq counts.high label) 0
 
 -- whether a label is counted twice or more often
 abbrev pub is_shared_in : LabelCounts → ℕ → Bool
-is_shared_in counts label = nat_lt 1 (count_in counts label)
+is_shared_in counts label = nat_lt 1 (label_count counts label)
 
 -- one more, but no more than two
 abbrev pub one_more : ℕ → ℕ
@@ -17,4 +17,4 @@ one_more n = if nat_lt 1 n then n else n + 1
 
 -- each label is counted as often as it stands in the list, where two stands for any greater number
 pub record CountsLabels (counts : LabelCounts) (labels : List ℕ) : Type 0 where
-  pub count : (label : ℕ) → count_in counts label ≡ min 2 (count_by (λ l. label == l) labels)
+  pub count : (label : ℕ) → label_count counts label ≡ min 2 (count_by (λ l. label == l) labels)

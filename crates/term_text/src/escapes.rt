@@ -3,7 +3,7 @@
 ghost use Rattle.std.specs.Prelude.{◌≡◌, ◌++◌, ◌<◌, OnOk, IsTrue};
 ghost use Rattle.std.specs.List.{flat_map};
 ghost use Rattle.term_text.specs.CanonicalText.{hex_digit as digit_of};
-ghost use Rattle.term_text.specs.Appending.{BeginsWith, spelled, is_escaped};
+ghost use Rattle.term_text.specs.Appending.{BeginsWith, written_byte, is_escaped};
 
 use gk_base::NoMemory;
 
@@ -45,7 +45,7 @@ pub fn put(buf: &mut Vec<u8>, piece: &[u8]) -> Result<(), NoMemory>
 /// Appends these bytes as they are written there: each run that may stand raw is copied at once.
 #[inline]
 pub fn put_escaped(buf: &mut Vec<u8>, text: &[u8], inside: Inside) -> Result<(), NoMemory>
-    ensures ok { OnOk result (buf.new.items ≡ buf.old.items ++ flat_map (spelled inside) text.now) }
+    ensures ok { OnOk result (buf.new.items ≡ buf.old.items ++ flat_map (written_byte inside) text.now) }
     ensures kept { BeginsWith buf.old.items buf.new.items }
 {
     let mut copied = 0;
@@ -62,7 +62,7 @@ pub fn put_escaped(buf: &mut Vec<u8>, text: &[u8], inside: Inside) -> Result<(),
 /// Appends the escape of a byte that may not stand raw there.
 fn put_escape(buf: &mut Vec<u8>, byte: u8, inside: Inside) -> Result<(), NoMemory>
     requires { IsTrue (is_escaped inside byte) }
-    ensures ok { OnOk result (buf.new.items ≡ buf.old.items ++ spelled inside byte) }
+    ensures ok { OnOk result (buf.new.items ≡ buf.old.items ++ written_byte inside byte) }
     ensures kept { BeginsWith buf.old.items buf.new.items }
 {
     match inside {

@@ -1,7 +1,7 @@
 //! Which labels more than one name has.
 
 ghost use Rattle.std.specs.Prelude.{◌≡◌, ℕ, IfOk, OnOk, ◌==◌, if◌then◌else◌};
-ghost use Rattle.term_text.specs.Labels.{count_in, is_shared_in, one_more, CountsLabels};
+ghost use Rattle.term_text.specs.Labels.{label_count, is_shared_in, one_more, CountsLabels};
 
 use gk_base::NoMemory;
 use std::alloc::Global;
@@ -39,7 +39,7 @@ impl LabelCounts {
     }
 
     fn count(&self, label: u32) -> u8
-        ensures { result ≡ count_in self.now label }
+        ensures { result ≡ label_count self.now label }
     {
         let place = label as usize;
         if place < self.low.len() {
@@ -50,8 +50,8 @@ impl LabelCounts {
     }
 
     fn add(&mut self, label: u32) -> Result<(), NoMemory>
-        ensures { OnOk result ((l : ℕ) → count_in self.new l
-            ≡ if l == label then one_more (count_in self.old l) else count_in self.old l) }
+        ensures { OnOk result ((l : ℕ) → label_count self.new l
+            ≡ if l == label then one_more (label_count self.old l) else label_count self.old l) }
     {
         let count = self.count(label);
         if count > 1 {

@@ -2,7 +2,6 @@
 
 use crate::KeyFault;
 use crate::tests::Says;
-use gk_base::LexFault;
 
 /// Key files, and what they say.
 pub(super) static FILES: [(&[u8], Says); 103] = [
@@ -12,10 +11,7 @@ pub(super) static FILES: [(&[u8], Says); 103] = [
     (b"end", Says::Refused(1, KeyFault::StatementOutOfPlace)),
     (b"foo", Says::Refused(1, KeyFault::UnknownStatement)),
     (b"key A <urn:T>", Says::Refused(1, KeyFault::BadName)),
-    (
-        b"key k <T>",
-        Says::Refused(1, KeyFault::Lex(LexFault::RelativeIri)),
-    ),
+    (b"key k <T>", Says::Refused(1, KeyFault::RelativeIri)),
     (
         b"key k <urn:T> more",
         Says::Refused(1, KeyFault::UnknownStatement),
@@ -64,17 +60,11 @@ pub(super) static FILES: [(&[u8], Says); 103] = [
         b"key k <urn:T>\nvalue $v\nany _w <urn:M>\nany _z <urn:M>\n?x <urn:p> $v\nend",
         Says::Refused(6, KeyFault::VariableNotUsed),
     ),
-    (
-        b"foo \xff",
-        Says::Refused(1, KeyFault::Lex(LexFault::NotUtf8)),
-    ),
-    (
-        b"# \xff",
-        Says::Refused(1, KeyFault::Lex(LexFault::NotUtf8)),
-    ),
+    (b"foo \xff", Says::Refused(1, KeyFault::NotUtf8)),
+    (b"# \xff", Says::Refused(1, KeyFault::NotUtf8)),
     (
         b"key k <urn:T>\n?x <urn:p> \"\xc3\"",
-        Says::Refused(2, KeyFault::Lex(LexFault::NotUtf8)),
+        Says::Refused(2, KeyFault::NotUtf8),
     ),
     (
         b"key k <urn:T>\nfoo",
@@ -101,23 +91,11 @@ pub(super) static FILES: [(&[u8], Says); 103] = [
     (b"<urn:a>", Says::Refused(1, KeyFault::StatementOutOfPlace)),
     (b"key", Says::Refused(1, KeyFault::BadName)),
     (b"key # c", Says::Refused(1, KeyFault::BadName)),
-    (b"key k", Says::Refused(1, KeyFault::Lex(LexFault::BadIri))),
-    (
-        b"key k # c",
-        Says::Refused(1, KeyFault::Lex(LexFault::BadIri)),
-    ),
-    (
-        b"key k urn:T",
-        Says::Refused(1, KeyFault::Lex(LexFault::BadIri)),
-    ),
-    (
-        b"key k <urn:T",
-        Says::Refused(1, KeyFault::Lex(LexFault::BadIri)),
-    ),
-    (
-        b"key k <urn:\\x>",
-        Says::Refused(1, KeyFault::Lex(LexFault::BadEscape)),
-    ),
+    (b"key k", Says::Refused(1, KeyFault::BadIri)),
+    (b"key k # c", Says::Refused(1, KeyFault::BadIri)),
+    (b"key k urn:T", Says::Refused(1, KeyFault::BadIri)),
+    (b"key k <urn:T", Says::Refused(1, KeyFault::BadIri)),
+    (b"key k <urn:\\x>", Says::Refused(1, KeyFault::BadEscape)),
     (b"key k# <urn:T>", Says::Refused(1, KeyFault::BadName)),
     (b"key k<urn:T>", Says::Refused(1, KeyFault::BadName)),
     (b"key A <T>", Says::Refused(1, KeyFault::BadName)),
@@ -139,7 +117,7 @@ pub(super) static FILES: [(&[u8], Says); 103] = [
     ),
     (
         b"key k <urn:T>\nentity ?y <T>",
-        Says::Refused(2, KeyFault::Lex(LexFault::RelativeIri)),
+        Says::Refused(2, KeyFault::RelativeIri),
     ),
     (
         b"key k <urn:T>\nentity ? <urn:T>",
@@ -149,10 +127,7 @@ pub(super) static FILES: [(&[u8], Says); 103] = [
         b"key k <urn:T>\nany ?w <urn:M>",
         Says::Refused(2, KeyFault::BadName),
     ),
-    (
-        b"key k <urn:T>\nany _w",
-        Says::Refused(2, KeyFault::Lex(LexFault::BadIri)),
-    ),
+    (b"key k <urn:T>\nany _w", Says::Refused(2, KeyFault::BadIri)),
     (
         b"key k <urn:T>\nvalue ?n",
         Says::Refused(2, KeyFault::BadName),
@@ -188,16 +163,13 @@ pub(super) static FILES: [(&[u8], Says); 103] = [
     ),
     (
         b"key k <urn:T>\n?x p $v",
-        Says::Refused(2, KeyFault::Lex(LexFault::BadIri)),
+        Says::Refused(2, KeyFault::BadIri),
     ),
     (
         b"key k <urn:T>\n?x <T> $v",
-        Says::Refused(2, KeyFault::Lex(LexFault::RelativeIri)),
+        Says::Refused(2, KeyFault::RelativeIri),
     ),
-    (
-        b"key k <urn:T>\n?x",
-        Says::Refused(2, KeyFault::Lex(LexFault::BadIri)),
-    ),
+    (b"key k <urn:T>\n?x", Says::Refused(2, KeyFault::BadIri)),
     (
         b"key k <urn:T>\n?x <urn:p>",
         Says::Refused(2, KeyFault::UnknownStatement),
@@ -216,27 +188,27 @@ pub(super) static FILES: [(&[u8], Says); 103] = [
     ),
     (
         b"key k <urn:T>\n?x <urn:p> \"a",
-        Says::Refused(2, KeyFault::Lex(LexFault::StringNotClosed)),
+        Says::Refused(2, KeyFault::StringNotClosed),
     ),
     (
         b"key k <urn:T>\n?x <urn:p> \"\\z\"",
-        Says::Refused(2, KeyFault::Lex(LexFault::BadEscape)),
+        Says::Refused(2, KeyFault::BadEscape),
     ),
     (
         b"key k <urn:T>\n?x <urn:p> \"a\"@1",
-        Says::Refused(2, KeyFault::Lex(LexFault::BadLanguageTag)),
+        Says::Refused(2, KeyFault::BadLanguageTag),
     ),
     (
         b"key k <urn:T>\n?x <urn:p> \"a\"^^<T>",
-        Says::Refused(2, KeyFault::Lex(LexFault::RelativeIri)),
+        Says::Refused(2, KeyFault::RelativeIri),
     ),
     (
         b"key k <urn:T>\n?x <urn:p> \"a\"^^x",
-        Says::Refused(2, KeyFault::Lex(LexFault::BadIri)),
+        Says::Refused(2, KeyFault::BadIri),
     ),
     (
         b"key k <urn:T>\n?x <urn:p> <T>",
-        Says::Refused(2, KeyFault::Lex(LexFault::RelativeIri)),
+        Says::Refused(2, KeyFault::RelativeIri),
     ),
     (
         b"key k <urn:T>\n?x <urn:p> $v more",
@@ -335,7 +307,7 @@ pub(super) static FILES: [(&[u8], Says); 103] = [
     ),
     (
         b"key a0123456789_0123456789_012345678 <T>",
-        Says::Refused(1, KeyFault::Lex(LexFault::RelativeIri)),
+        Says::Refused(1, KeyFault::RelativeIri),
     ),
     (
         b"key k <urn:T>\n?x <urn:p> ?x\nend\nkey k2 <urn:T>\n?x <urn:p> ?x\nend\n",
@@ -355,7 +327,7 @@ pub(super) static FILES: [(&[u8], Says); 103] = [
     ),
     (
         b"key k <urn:T>\n?x <urn:p> <urn:c\n",
-        Says::Refused(2, KeyFault::Lex(LexFault::BadIri)),
+        Says::Refused(2, KeyFault::BadIri),
     ),
     (
         b"key k <urn:T>\nany _a <urn:M>\n?x <urn:p> \"1\"@en-GB\n_a <urn:q> \"1\"@en-gb\nend\n",

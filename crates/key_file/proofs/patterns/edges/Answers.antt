@@ -3,7 +3,7 @@ use Rattle.std.specs.List.{flat_map}
 use Rattle.std.proofs.lemmas.List.{take_all, length-map}
 use Rattle.term_table.specs.Numbering.{with_terms}
 use Rattle.key_file.specs.declared.edge.KeyEdge.{KeyEdge}
-use Rattle.key_file.specs.Compile.{edge_of}
+use Rattle.key_file.specs.Compile.{numbered_edge}
 use Rattle.key_file.proofs.CompileLemmas.{HasGrown-more, names_more, made_more, room_more, edge_stays, predicates}
 use Rattle.key_file.proofs.patterns.edges.Goals as goal
 
@@ -20,9 +20,9 @@ loop-edge-preserved c =
     let number = c.in_ok-pred.ensures.number in
     record {
       grown = HasGrown-more c.args.names.now c.loop-edge.names c.number.new.names c.loop-edge.invariant.grown c.number.ensures.grown;
-      names = names_more edge_of (λ (e : KeyEdge). e.pred ∷ []) edge_stays c.args.names.now c.loop-edge.names c.number.new.names c.args.edges.now c.loop-edge.edge-index c.edge-item.result
+      names = names_more numbered_edge (λ (e : KeyEdge). e.pred ∷ []) edge_stays c.args.names.now c.loop-edge.names c.number.new.names c.args.edges.now c.loop-edge.edge-index c.edge-item.result
           c.loop-edge-test.true c.edge-item.is c.loop-edge.invariant.names c.in_ok-pred.ensures.names;
-      made = made_more edge_of (λ (e : KeyEdge). e.pred ∷ []) edge_stays c.args.names.now c.loop-edge.names c.number.new.names c.args.edges.now c.loop-edge.edge-index c.edge-item.result
+      made = made_more numbered_edge (λ (e : KeyEdge). e.pred ∷ []) edge_stays c.args.names.now c.loop-edge.names c.number.new.names c.args.edges.now c.loop-edge.edge-index c.edge-item.result
           (record { from = c.edge-item.result.from; pred = c.in_ok-pred.pred; to = c.edge-item.result.to })
           c.loop-edge.made.items c.push.new.self.items c.loop-edge-test.true c.edge-item.is c.loop-edge.invariant.names c.in_ok-pred.ensures.names
           c.loop-edge.invariant.made (λ i. record { from = c.edge-item.result.from; pred = number i; to = c.edge-item.result.to }) c.in_ok-push.ensures.items;

@@ -2,7 +2,7 @@ use Rattle.key_lang.proofs.AnswerLemmas.{then_stop, then_so, close_so, open_so}
 use Rattle.key_lang.specs.declared.fault.LineStop.TheVariants.{Fault}
 use Rattle.key_lang.specs.declared.fault.KeyFault.TheVariants.{UnknownStatement}
 use Rattle.std.proofs.Common.{Err, subst}
-use Rattle.key_lang.specs.Answers.{Is, IsSo}
+use Rattle.key_lang.specs.Answers.{Is, AnswersLine}
 use Rattle.key_lang.specs.OpenKey.{declare}
 use Rattle.key_lang.proofs.declarations.typed_statement.Goals as goal
 
@@ -21,4 +21,4 @@ pub returns : goal.returns
 returns c =
     then_so _ _ c.in-Ok.read c.declare.result c.in-Ok.ensures.so (then_so _ _ c.in-Ok-read_type.read c.declare.result c.in-Ok-read_type.ensures.so
     (close_so _ _ _ c.declare.result c.closes.result c.closes.ensures c.if-not-closes.false
-    (subst (λ slot. IsSo (Is (declare c.args.key slot)) c.declare.result) c.typed_slot.ensures c.declare.ensures)))
+    (subst (λ slot. AnswersLine (Is (declare c.args.key slot)) c.declare.result) c.typed_slot.ensures c.declare.ensures)))

@@ -5,7 +5,7 @@ use Rattle.key_file.specs.declared.slot.KeySlot.{KeySlot}
 use Rattle.key_file.specs.declared.edge.KeyEdge.{KeyEdge}
 use Rattle.key_file.specs.Key.{IsKey, is_used, is_connected}
 use Rattle.key_lang.specs.declared.open_key.OpenEdge.{OpenEdge}
-use Rattle.key_lang.specs.OpenKey.{OpenShape, slot_of, key_edge, whole, all_used}
+use Rattle.key_lang.specs.OpenKey.{OpenShape, slot_of_end, key_edge, whole, all_used}
 use Rattle.key_lang.specs.Fair.{IsFair}
 use Rattle.key_lang.proofs.WholeLemmas.{whole_valid, edges_small}
 use Rattle.key_lang.proofs.endings.finish.Goals as goal
@@ -14,7 +14,7 @@ pub key_edges-requires : goal.key_edges-requires
 key_edges-requires c =
     let key : OpenShape = record { name = c.key.inside.name; variables = c.key.inside.variables.items; constants = c.key.inside.constants.items; edges = c.key.inside.edges.items } in
     let fair : IsFair key = subst IsFair (sym c.key.view_is) c.requires in
-    subst (λ (l : List KeySlot). All (λ (e : OpenEdge). (e.from < 256) × (slot_of (length l) e.to < 256)) key.edges) (sym c.as_slice-2.ensures.value) (edges_small key fair key.edges fair.ends)
+    subst (λ (l : List KeySlot). All (λ (e : OpenEdge). (e.from < 256) × (slot_of_end (length l) e.to < 256)) key.edges) (sym c.as_slice-2.ensures.value) (edges_small key fair key.edges fair.ends)
 
 -- the parts of the key that were made are those of the whole key
 made_valid : (key : OpenShape) → IsFair key → (slots : List KeySlot) (edges : List KeyEdge) → slots ≡ (whole key).slots → edges ≡ (whole key).edges

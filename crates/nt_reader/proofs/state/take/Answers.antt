@@ -10,7 +10,8 @@ use Rattle.std.proofs.Common.{Err}
 use Rattle.nt_reader.specs.Lines.{is_line_byte}
 use Rattle.nt_reader.specs.declared.state.State.{State}
 use Rattle.nt_reader.specs.Judged.{Judges}
-use Rattle.nt_reader.specs.Kept.{Stands, IsStopped}
+use Rattle.nt_reader.specs.Reading.{front_of}
+use Rattle.nt_reader.specs.Kept.{IsFrontOf, IsStopped}
 use Rattle.nt_reader.proofs.StateLemmas.{take_part, take_line, length-range, range_passes, stands_swallow, stands_part, stands_line, stops_line, stopped_more, moved}
 use Rattle.nt_reader.proofs.state.take.Goals as goal
 use Rattle.nt_reader.proofs.state.take.Goals.{else-state-via-then-state+else-piece-from-eq10, else-state-via-else-state}
@@ -54,7 +55,7 @@ returns-then-end-piece-clause-takes c =
     moved c.args.limits.now _ taken _ _
     (append_assoc seen (take from piece) seg ∙ ap (λ (l : List ℕ). seen ++ l) (sym (take_part piece from end run.ordered) ∙ take_all end piece (omega (arith, c.if-end-piece.true)))) step
 
-stopped : (limits : Limits) (old : State) (taken : List Triple) (seen : List ℕ) (s : Stands limits old taken seen) (seg : List ℕ) (b : ℕ) (p : AllPass is_line_byte seg) (e : is_line_byte b ≡ false)
+stopped : (limits : Limits) (old : State) (taken : List Triple) (seen : List ℕ) (s : IsFrontOf limits (front_of old) taken seen) (seg : List ℕ) (b : ℕ) (p : AllPass is_line_byte seg) (e : is_line_byte b ≡ false)
     (own : length seg ≡ 0 → (eqb b 0x0A && old.after_return) ≡ false) (room : old.bytes + length seg + 1 ≤ limits.bytes) (new : List Triple) (stop : ReadStop)
     → Judges {A = Unit {0}} old.room old.triples new (old.kept.items ++ seg) old.line (Err stop) → IsStopped limits (seen ++ (seg ++ b ∷ [])) stop
 stopped limits old taken seen s seg b p e own room new NoMemory j = tt
