@@ -39,6 +39,51 @@ value $n
 end
 """
 
+BIBLIOGRAPHY_KEYS = f"""# Two sources of one bibliography.
+key series_by_issn <{SITE}Series>
+value $i
+?x <{SITE}issn> $i
+end
+key series_by_title_and_venue <{SITE}Series>
+entity ?v <{SITE}Venue>
+value $t
+?x <{SITE}title> $t
+?v <{SITE}of> ?x
+end
+key venue_by_title_and_series <{SITE}Venue>
+entity ?s <{SITE}Series>
+value $t
+?x <{SITE}title> $t
+?x <{SITE}of> ?s
+end
+key paper_by_title_and_venue <{SITE}Paper>
+entity ?v <{SITE}Venue>
+value $t
+?x <{SITE}title> $t
+?x <{SITE}in> ?v
+end
+# The way to the series passes two wildcards.
+key author_by_name_and_series <{SITE}Author>
+any _p <{SITE}Paper>
+any _v <{SITE}Venue>
+entity ?s <{SITE}Series>
+value $n
+?x <{SITE}name> $n
+_p <{SITE}by> ?x
+_p <{SITE}in> _v
+_v <{SITE}of> ?s
+end
+# The way to the paper passes a literal.
+key author_by_address_and_paper <{SITE}Author>
+entity ?p <{SITE}Paper>
+value $n
+value $a
+?x <{SITE}name> $n
+?x <{SITE}address> $a
+?p <{SITE}contact> $a
+end
+"""
+
 
 def mixed(out, triples, seed=1):
     """A graph as exporters write it: IRIs, blank nodes, plain, typed and tagged literals, some escapes and comments."""
@@ -99,6 +144,55 @@ def catalogue(out, triples, seed=1):
             out.write(f'{thing} <{SITE}year> "{1960 + rng.randrange(60)}"^^<http://www.w3.org/2001/XMLSchema#gYear> .\n')
             if source in held["artist", artist]:
                 out.write(f"{thing} <{SITE}by> <{SITE}{source}/artist/{artist}> .\n")
+
+
+def bibliography(out, triples, seed=1):
+    """Papers, authors, venues and series from two sources. Of each thing both sources have a description in three cases of
+    four. A venue's share of the papers goes down with its number, and so does a series' share of the venues."""
+    rng = random.Random(seed)
+    papers = max(8, triples * 10 // 123)
+    authors, venues = papers // 2, max(4, papers // 40)
+    series = max(2, venues // 8)
+    held = {}
+
+    def described(kind, number):
+        held[kind, number] = ("a", "b") if rng.randrange(4) else (rng.choice("ab"),)
+        for source in held[kind, number]:
+            thing = f"<{SITE}{source}/{kind}/{number}>"
+            out.write(f"{thing} {TYPE} <{SITE}{kind.capitalize()}> .\n")
+            yield source, thing
+
+    def skewed(count):
+        """Of the numbers below the count some number, 0 the most often."""
+        return int((count + 1) ** rng.random()) - 1
+
+    def linked(source, thing, predicate, kind, number):
+        if source in held[kind, number]:
+            out.write(f"{thing} <{SITE}{predicate}> <{SITE}{source}/{kind}/{number}> .\n")
+
+    for number in range(series):
+        for source, thing in described("series", number):
+            out.write(f'{thing} <{SITE}title> "Series {number // 2}" .\n')
+            if rng.randrange(2):
+                out.write(f'{thing} <{SITE}issn> "I{number}" .\n')
+    for number in range(venues):
+        part_of = skewed(series)
+        for source, thing in described("venue", number):
+            out.write(f'{thing} <{SITE}title> "Venue {number // 3}" .\n')
+            linked(source, thing, "of", "series", part_of)
+    for number in range(authors):
+        for source, thing in described("author", number):
+            out.write(f'{thing} <{SITE}name> "Author {number // 4}" .\n')
+            if rng.randrange(3):
+                out.write(f'{thing} <{SITE}address> "a{number}@example.org" .\n')
+    for number in range(papers):
+        venue, first, second = skewed(venues), rng.randrange(authors), rng.randrange(authors)
+        for source, thing in described("paper", number):
+            out.write(f'{thing} <{SITE}title> "Paper {number // 2}" .\n')
+            linked(source, thing, "in", "venue", venue)
+            linked(source, thing, "by", "author", first)
+            linked(source, thing, "by", "author", second)
+            out.write(f'{thing} <{SITE}contact> "a{first}@example.org" .\n')
 
 
 def chain(out, pairs, seed=1):

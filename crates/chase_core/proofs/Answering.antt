@@ -16,8 +16,8 @@ use Rattle.chase_core.specs.declared.ticket.Outcome.{Outcome}
 use Rattle.chase_core.specs.declared.ticket.Outcome.TheVariants as outcome
 use Rattle.chase_core.specs.declared.ticket.Settled.{Settled}
 use Rattle.chase_core.specs.declared.ticket.Settled.TheVariants as settled
-use Rattle.chase_core.specs.Setup.{Prepared}
-use Rattle.chase_core.specs.Table.{Table}
+use Rattle.chase_core.specs.Setup.{Preparation}
+use Rattle.chase_core.specs.Table.{Standings}
 use Rattle.chase_core.specs.Running.{Running, state_of, state_in, running_with}
 use Rattle.chase_core.specs.Settling.{SettlesMissed, Settles, Notes}
 use Rattle.chase_core.proofs.Taken.{joined_apart}
@@ -64,7 +64,7 @@ module _ (T : Task) (ok : IsTask T) (labels : List ℕ) (count : length labels �
 
 -- ---- the events
 
-module _ (S : Prepared) (book : Classes) (old new : Table) (t : Ticket) (view : List (ℕ × ℕ)) (up : Ascends view) (ends : PairAt S.task t.pair t.a t.b) (apart : ¬ (Joined book.journal t.a t.b))
+module _ (S : Preparation) (book : Classes) (old new : Standings) (t : Ticket) (view : List (ℕ × ℕ)) (up : Ascends view) (ends : PairAt S.task t.pair t.a t.b) (apart : ¬ (Joined book.journal t.a t.b))
     (near : ListsNear S.task t.a t.b view) (none : ¬ (Matches S.task.graph S.task.patterns (same_by view) t.a t.b)) where
   state_is : (ss : List PairState) → new.states ≡ ss → state_of book new ≡ record (state_of book old) { pairs = ss }
   state_is ss e = ap (λ (xs : List PairState). state_of book (record { states = xs; ready = new.ready })) e

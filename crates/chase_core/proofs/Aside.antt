@@ -13,7 +13,7 @@ use Rattle.chase_laws.specs.declared.pair_state.PairState.{PairState}
 use Rattle.chase_laws.specs.declared.pair_state.PairState.TheVariants as state
 use Rattle.chase_laws.specs.Core.{set_each}
 use Rattle.list_pool.specs.Pool.{without}
-use Rattle.chase_core.specs.Table.{Table, IsReadyList}
+use Rattle.chase_core.specs.Table.{Standings, IsReadyList}
 use Rattle.chase_core.specs.Gathering.{SetsAside, AreAside}
 use Rattle.chase_core.proofs.Members.{all_pairs_append, Contains-cons_cases, Contains-head, Contains-tail, Contains-nil}
 use Rattle.chase_core.proofs.Tables.{set_here, set_other, without_none}
@@ -58,7 +58,7 @@ stands_or_not (x ∷ xs) q = elim (cases_eq x q) [
 
 -- ---- pairs set aside
 
-pub aside_none : (P : ℕ → Type 0) (t : Table) (xs : List ℕ) → ((q : ℕ) → ¬ (P q)) → SetsAside P t t xs xs
+pub aside_none : (P : ℕ → Type 0) (t : Standings) (xs : List ℕ) → ((q : ℕ) → ¬ (P q)) → SetsAside P t t xs xs
 aside_none P t xs none = record {
   more = [];
   list = sym (append-nil xs);
@@ -68,7 +68,7 @@ aside_none P t xs none = record {
   once = λ i j d lt h. absurd (omega arith);
 }
 
-pub aside_same : (P Q : ℕ → Type 0) (old new : Table) (xs ys : List ℕ) → ((q : ℕ) → P q ↔ Q q) → SetsAside P old new xs ys → SetsAside Q old new xs ys
+pub aside_same : (P Q : ℕ → Type 0) (old new : Standings) (xs ys : List ℕ) → ((q : ℕ) → P q ↔ Q q) → SetsAside P old new xs ys → SetsAside Q old new xs ys
 aside_same P Q old new xs ys same s = record {
   more = s.more;
   list = s.list;
@@ -78,7 +78,7 @@ aside_same P Q old new xs ys same s = record {
   once = s.once;
 }
 
-module _ (P Q : ℕ → Type 0) (old mid new : Table) (xs ys zs : List ℕ) (s : SetsAside P old mid xs ys) (t : SetsAside Q mid new ys zs) where
+module _ (P Q : ℕ → Type 0) (old mid new : Standings) (xs ys zs : List ℕ) (s : SetsAside P old mid xs ys) (t : SetsAside Q mid new ys zs) where
   -- what stands at Missed between was not set aside, and stood there before
   still : (q : ℕ) → slice_get mid.states q ≡ Some state.Missed → ¬ (Contains s.more q)
   still q h c =
@@ -121,7 +121,7 @@ module _ (P Q : ℕ → Type 0) (old mid new : Table) (xs ys zs : List ℕ) (s :
   }
 
 -- one more of a list whose first ones were gone through
-pub aside_more : (R : ℕ → ℕ → Type 0) (es : List ℕ) (i : ℕ) (old mid new : Table) (xs ys zs : List ℕ) → i < length es →
+pub aside_more : (R : ℕ → ℕ → Type 0) (es : List ℕ) (i : ℕ) (old mid new : Standings) (xs ys zs : List ℕ) → i < length es →
     SetsAside (λ q. (e : ℕ) × Contains (take i es) e × R q e) old mid xs ys → SetsAside (λ q. R q (get_or es i 0)) mid new ys zs →
     SetsAside (λ q. (e : ℕ) × Contains (take (i + 1) es) e × R q e) old new xs zs
 aside_more R es i old mid new xs ys zs h s t =
@@ -146,7 +146,7 @@ missed_or_not state.Flying = inr (λ e. cc)
 missed_or_not state.Missed = inl refl
 missed_or_not state.Joined = inr (λ e. cc)
 
-pub aside_one : (old new : Table) (p : ℕ) (xs : List ℕ) → IsReadyList old.states old.ready → slice_get old.states p ≡ Some state.Missed → new.states ≡ slice_set old.states p state.Flying →
+pub aside_one : (old new : Standings) (p : ℕ) (xs : List ℕ) → IsReadyList old.states old.ready → slice_get old.states p ≡ Some state.Missed → new.states ≡ slice_set old.states p state.Flying →
     new.ready ≡ without old.ready p → SetsAside (λ q. p ≡ q) old new xs (xs ++ p ∷ [])
 aside_one old new p xs r missed states ready = record {
   more = p ∷ [];
@@ -163,7 +163,7 @@ aside_one old new p xs r missed states ready = record {
   once = λ i j d lt h. absurd (omega arith);
 }
 
-pub aside_skip : (old : Table) (p : ℕ) (xs : List ℕ) → slice_get old.states p ≢ Some state.Missed → SetsAside (λ q. p ≡ q) old old xs xs
+pub aside_skip : (old : Standings) (p : ℕ) (xs : List ℕ) → slice_get old.states p ≢ Some state.Missed → SetsAside (λ q. p ≡ q) old old xs xs
 aside_skip old p xs other = record {
   more = [];
   list = sym (append-nil xs);

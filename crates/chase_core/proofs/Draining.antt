@@ -23,7 +23,7 @@ use Rattle.chase_core.specs.declared.ticket.Outcome.{Outcome}
 use Rattle.chase_core.specs.declared.ticket.Outcome.TheVariants as outcome
 use Rattle.chase_core.specs.declared.ticket.Settled.{Settled}
 use Rattle.chase_core.specs.declared.ticket.Settled.TheVariants as settled
-use Rattle.chase_core.specs.Setup.{Prepared}
+use Rattle.chase_core.specs.Setup.{Preparation}
 use Rattle.chase_core.specs.Table.{IsReadyList}
 use Rattle.chase_core.specs.Running.{Running, state_in, IsRunning}
 use Rattle.chase_core.specs.Taking.{TakesFirst}
@@ -72,10 +72,10 @@ module _ (law : CoreLaw) (old mid : Running) (t : Ticket) (running : IsRunning o
 
   -- the state between is sound
   pub mid_sound : IsSound mid.setup.task (state_in mid)
-  mid_sound = subst (λ (S : Prepared). IsSound S.task (state_in mid)) (sym setup) (law.event old.setup.task running.task (state_in old) (state_in mid) (Take takes.passed (Some t.pair)) running.sound takes.event)
+  mid_sound = subst (λ (S : Preparation). IsSound S.task (state_in mid)) (sym setup) (law.event old.setup.task running.task (state_in old) (state_in mid) (Take takes.passed (Some t.pair)) running.sound takes.event)
 
   pub mid_task : IsTask mid.setup.task
-  mid_task = subst (λ (S : Prepared). IsTask S.task) (sym setup) running.task
+  mid_task = subst (λ (S : Preparation). IsTask S.task) (sym setup) running.task
 
   -- what the search found is right
   pub right : (view : List (ℕ × ℕ)) (found : Outcome) → ListsNear mid.setup.task t.a t.b view → IsPresent (state_in mid) view → IsFoundBy mid.setup.task t view found → IsRightOutcome mid.setup.task (state_in mid) t view found
@@ -158,7 +158,7 @@ module _ (law : CoreLaw) (old mid : Running) (t : Ticket) (running : IsRunning o
   less new view outcome.Missed settled.Already e r present s = shorter new e s.1 (rw s.2 (without_short t.pair))
   less new view (outcome.Found f) (settled.Entered place) e r present s =
       let room = law.room mid.setup.task mid_task (state_in mid) mid_sound t.pair (t.a, t.b, s.0.0, s.0.1) in
-      let short : length new.table.ready ≤ length old.setup.task.pairs = subst (λ n. length new.table.ready ≤ n) (r.sound.one_state_each ∙ ap (λ (S : Prepared). length S.task.pairs) (e ∙ setup)) (ready_short new.table.states new.table.ready r.ready) in
+      let short : length new.table.ready ≤ length old.setup.task.pairs = subst (λ n. length new.table.ready ≤ n) (r.sound.one_state_each ∙ ap (λ (S : Preparation). length S.task.pairs) (e ∙ setup)) (ready_short new.table.states new.table.ready r.ready) in
       let before : length old.book.journal < length old.setup.task.pairs = rw (setup, book) at room.0 in
       let journal : length new.book.journal ≡ length old.book.journal + 1 = ap length s.0.3.journal ∙ length_push mid.book.journal (entry_of t f) ∙ ap (λ (B : Classes). length B.journal + 1) book in
       rw (e ∙ setup) (less_by_one (length old.setup.task.pairs) (length old.book.journal) (length new.book.journal) (length old.table.ready) (length new.table.ready) before journal short)
@@ -177,7 +177,7 @@ module _ (law : CoreLaw) (old mid : Running) (t : Ticket) (running : IsRunning o
       let taken = Take takes.passed (Some t.pair) in (
         r.0 ++ taken ∷ event.0 ∷ [],
         run_append old.setup.task r.0 (taken ∷ event.0 ∷ []) first (state_in old) (state_in new) r.1
-            (state_in mid, takes.event, (state_in new, subst (λ (S : Prepared). Happens S.task (state_in mid) event.0 (state_in new)) setup event.1, refl)),
+            (state_in mid, takes.event, (state_in new, subst (λ (S : Preparation). Happens S.task (state_in mid) event.0 (state_in new)) setup event.1, refl)),
       )
 
 -- ---- the end

@@ -6,8 +6,8 @@ use Rattle.chase_laws.specs.Core.{Task, IsTask, name_count, PairAt, IsNearEither
 use Rattle.chase_laws.proofs.CoreEvents.{near_named}
 use Rattle.chase_laws.proofs.Lists.{All-at}
 use Rattle.class_book.specs.Classes.{Classes}
-use Rattle.chase_core.specs.Setup.{Prepared, IsNearTo}
-use Rattle.chase_core.specs.Table.{Table}
+use Rattle.chase_core.specs.Setup.{Preparation, IsNearTo}
+use Rattle.chase_core.specs.Table.{Standings}
 use Rattle.chase_core.specs.Running.{state_of}
 use Rattle.chase_core.specs.Gathering.{LooksAt, IsRelabelled, tail_of}
 
@@ -21,8 +21,8 @@ ends_named T ok p a b at =
 pub room_is : (n pairs names room : ℕ) → room ≡ min pairs (names - 1) → (n < pairs) × (n + 1 < names) → n < room
 room_is n pairs names room e h = omega arith
 
-module _ (S : Prepared) (ok : IsTask S.task) (near : IsNearTo S.task S.near.near) (old new : Classes) (start count : ℕ) (names : length old.labels ≡ name_count S.task)
-    (r : IsRelabelled old new start count) (long : length new.labels ≡ length old.labels) (zero three : Table) where
+module _ (S : Preparation) (ok : IsTask S.task) (near : IsNearTo S.task S.near.near) (old new : Classes) (start count : ℕ) (names : length old.labels ≡ name_count S.task)
+    (r : IsRelabelled old new start count) (long : length new.labels ≡ length old.labels) (zero three : Standings) where
   -- a pair is touched where it looks at a name with another label
   pub touched_exactly : (q a b : ℕ) → PairAt S.task q a b →
       IsTouched S.task (state_of old zero) (state_of new three) a b ↔ ((n : ℕ) × Contains (tail_of new start count) n × LooksAt S q n)

@@ -19,8 +19,8 @@ use Rattle.chase_core.specs.declared.ticket.Outcome.{Outcome}
 use Rattle.chase_core.specs.declared.ticket.Outcome.TheVariants as outcome
 use Rattle.chase_core.specs.declared.ticket.Settled.{Settled}
 use Rattle.chase_core.specs.declared.ticket.Settled.TheVariants as settled
-use Rattle.chase_core.specs.Setup.{Prepared}
-use Rattle.chase_core.specs.Table.{Table}
+use Rattle.chase_core.specs.Setup.{Preparation}
+use Rattle.chase_core.specs.Table.{Standings}
 use Rattle.chase_core.specs.Running.{Running, journal_room, state_in, state_of, running_with, IsKept}
 use Rattle.chase_core.specs.Taking.{TakesFirst, TakesHint}
 use Rattle.chase_core.specs.Settling.{entry_of, Settles}
@@ -70,7 +70,7 @@ journal_fits T ok S sound = elim (cases_lt 0 (length S.journal)) [
         let at = slice_get-from_Contains T.pairs (e.a, e.b) (sound.ends i d h) in
         ends_named T ok at.0 e.a e.b at.1
 
-pub kept_by : EventsKeep → (S : Prepared) (old_book new_book : Classes) (old new : Table) (before after : ℕ) → IsKept (running_with S old_book old) before →
+pub kept_by : EventsKeep → (S : Preparation) (old_book new_book : Classes) (old new : Standings) (before after : ℕ) → IsKept (running_with S old_book old) before →
     (event : Event) → Happens S.task (state_of old_book old) event (state_of new_book new) → new_book.room ≡ old_book.room → after ≡ before → IsKept (running_with S new_book new) after
 kept_by law S old_book new_book old new before after k event h room aside = record {
   task = k.task;

@@ -7,7 +7,7 @@ use Rattle.chase_laws.specs.declared.pair_state.PairState.TheVariants as state
 use Rattle.chase_laws.specs.Core.{Task, EndsJoined, set_each}
 use Rattle.list_pool.specs.Pool.{without}
 use Rattle.class_book.specs.Classes.{Classes}
-use Rattle.chase_core.specs.Table.{Table, IsReadyList}
+use Rattle.chase_core.specs.Table.{Standings, IsReadyList}
 use Rattle.chase_core.specs.Running.{state_of}
 use Rattle.chase_core.specs.Passing.{HavePassed}
 use Rattle.chase_core.proofs.Tables.{without_none}
@@ -32,10 +32,10 @@ set_each_from xs is y z q other h = elim (stands_or_not is q) [
   | inr n ↦ sym (set_each_other xs is y q n) ∙ h
 ]
 
-pub none_passed : (T : Task) (book : Classes) (t : Table) → HavePassed T book t t []
+pub none_passed : (T : Task) (book : Classes) (t : Standings) → HavePassed T book t t []
 none_passed T book t = record { front = refl; states = refl; all = λ k d h. absurd (omega arith) }
 
-module _ (T : Task) (book : Classes) (old mid : Table) (passed : List ℕ) (have : HavePassed T book old mid passed) (r : IsReadyList mid.states mid.ready) (p : ℕ) (first : slice_get mid.ready 0 ≡ Some p) where
+module _ (T : Task) (book : Classes) (old mid : Standings) (passed : List ℕ) (have : HavePassed T book old mid passed) (r : IsReadyList mid.states mid.ready) (p : ℕ) (first : slice_get mid.ready 0 ≡ Some p) where
   pub first_ready : slice_get mid.states p ≡ Some state.Ready
   first_ready = (r.exact p).0 (0, slice_get_within mid.ready 0 p first, get_or_from_slice_get mid.ready 0 p p first)
 
@@ -51,7 +51,7 @@ module _ (T : Task) (book : Classes) (old mid : Table) (passed : List ℕ) (have
   pub fewer : length (without mid.ready p) < length mid.ready
   fewer = let e : length mid.ready ≡ suc (length (without mid.ready p)) = ap length (head_without mid.ready p r.once first) in omega arith
 
-  pub one_passed : (new : Table) → EndsJoined T (state_of book old) p → new.states ≡ slice_set mid.states p state.Joined → new.ready ≡ without mid.ready p → HavePassed T book old new (passed ++ p ∷ [])
+  pub one_passed : (new : Standings) → EndsJoined T (state_of book old) p → new.states ≡ slice_set mid.states p state.Joined → new.ready ≡ without mid.ready p → HavePassed T book old new (passed ++ p ∷ [])
   one_passed new joined states ready = record {
     front = have.front ∙ ap (λ xs. passed ++ xs) (head_without mid.ready p r.once first ∙ ap (λ xs. p ∷ xs) (sym ready)) ∙ sym (append_assoc passed (p ∷ []) new.ready);
     states = states ∙ ap (λ ss. slice_set ss p state.Joined) have.states ∙ sym (set_each-append old.states passed (p ∷ []) state.Joined);

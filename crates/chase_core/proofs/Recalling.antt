@@ -10,13 +10,13 @@ use Rattle.chase_laws.specs.declared.pair_state.PairState.{PairState}
 use Rattle.chase_laws.specs.declared.pair_state.PairState.TheVariants as state
 use Rattle.chase_laws.specs.Core.{recalled}
 use Rattle.chase_laws.proofs.Lists.{slice_get-map_from}
-use Rattle.chase_core.specs.Table.{Table}
+use Rattle.chase_core.specs.Table.{Standings}
 use Rattle.chase_core.specs.Settling.{RiseInOrder}
 use Rattle.chase_core.proofs.Members.{Contains-nil}
 use Rattle.chase_core.proofs.Tables.{set_here, set_other}
 
 -- so many of the first pairs were recalled, and these of them were Flying
-pub record IsRecalledTo (old new : Table) (list : List ℕ) (n : ℕ) : Type 0 where
+pub record IsRecalledTo (old new : Standings) (list : List ℕ) (n : ℕ) : Type 0 where
   pub count : length new.states ≡ length old.states
   pub done : (q : ℕ) → q < n → slice_get new.states q ≡ option_map recalled (slice_get old.states q)
   pub rest : (q : ℕ) → n ≤ q → slice_get new.states q ≡ slice_get old.states q
@@ -24,7 +24,7 @@ pub record IsRecalledTo (old new : Table) (list : List ℕ) (n : ℕ) : Type 0 w
   pub exact : (q : ℕ) → Contains list q ↔ ((q < n) × (slice_get old.states q ≡ Some state.Flying))
   pub up : IsStrictlyIncreasing list
 
-pub recalled_none : (t : Table) → IsRecalledTo t t [] 0
+pub recalled_none : (t : Standings) → IsRecalledTo t t [] 0
 recalled_none t = record {
   count = refl;
   done = λ q h. absurd (omega arith);
@@ -47,7 +47,7 @@ stays state.Flying h = absurd (h refl)
 stays state.Missed h = refl
 stays state.Joined h = refl
 
-module _ (old new : Table) (list : List ℕ) (n : ℕ) (r : IsRecalledTo old new list n) (s : PairState) (at : slice_get new.states n ≡ Some s) where
+module _ (old new : Standings) (list : List ℕ) (n : ℕ) (r : IsRecalledTo old new list n) (s : PairState) (at : slice_get new.states n ≡ Some s) where
   was : slice_get old.states n ≡ Some s
   was = sym (r.rest n (omega arith)) ∙ at
 
@@ -72,7 +72,7 @@ module _ (old new : Table) (list : List ℕ) (n : ℕ) (r : IsRecalledTo old new
   }
 
   -- a Flying pair goes to the end of the Ready list
-  pub recalled_one : s ≡ state.Flying → (next : Table) → next.states ≡ slice_set new.states n state.Ready → (slice_get new.states n ≢ Some state.Ready → next.ready ≡ new.ready ++ n ∷ []) → IsRecalledTo old next (list ++ n ∷ []) (n + 1)
+  pub recalled_one : s ≡ state.Flying → (next : Standings) → next.states ≡ slice_set new.states n state.Ready → (slice_get new.states n ≢ Some state.Ready → next.ready ≡ new.ready ++ n ∷ []) → IsRecalledTo old next (list ++ n ∷ []) (n + 1)
   recalled_one flies next states ready =
       let within : n < length new.states = slice_get_within new.states n s at in
       let other : slice_get new.states n ≢ Some state.Ready = λ e. let f : Some state.Flying ≡ Some state.Ready = ap Some (sym flies) ∙ sym at ∙ e in cc in
@@ -106,7 +106,7 @@ same_by_get (x ∷ xs) [] h = absurd (let e = h 0 in cc)
 same_by_get (x ∷ xs) (y ∷ ys) h = ap₂ (λ z zs. z ∷ zs) (same_Some x y (h 0)) (same_by_get xs ys (λ q. h (suc q)))
 
 -- all pairs were recalled
-module _ (old new : Table) (list : List ℕ) (n : ℕ) (r : IsRecalledTo old new list n) (all : length old.states ≤ n) where
+module _ (old new : Standings) (list : List ℕ) (n : ℕ) (r : IsRecalledTo old new list n) (all : length old.states ≤ n) where
   each : (q : ℕ) → slice_get new.states q ≡ slice_get (map recalled old.states) q
   each q = elim (cases_lt q n) [
     | inl h ↦ r.done q h ∙ sym (slice_get-map recalled old.states q)

@@ -10,7 +10,7 @@ use Rattle.std.proofs.lemmas.Option.{slice_get_within, slice_get-get_or, same_So
 use Rattle.chase_laws.specs.declared.pair_state.PairState.{PairState}
 use Rattle.chase_laws.specs.declared.pair_state.PairState.TheVariants as state
 use Rattle.list_pool.specs.Pool.{list_at, IsFree, without}
-use Rattle.chase_core.specs.Table.{IsReadyList, IsTable}
+use Rattle.chase_core.specs.Table.{IsReadyList, AreStandings}
 use Rattle.chase_core.proofs.Members.{Contains-filter, filter-Contains, filter_whole, Contains-range, AllPairs-range}
 
 pub ready_or_not : (o : Option PairState) → (o ≡ Some state.Ready) ⊎ (o ≢ Some state.Ready)
@@ -102,7 +102,7 @@ only_list lists p one none l h c = let e : l ≡ 0 = omega arith in none (subst 
 
 -- ---- the pool's only list written
 
-module _ (states : List PairState) (lists : List (List ℕ)) (cells : ℕ) (t : IsTable states lists cells) (p : ℕ) (within : p < length states) where
+module _ (states : List PairState) (lists : List (List ℕ)) (cells : ℕ) (t : AreStandings states lists cells) (p : ℕ) (within : p < length states) where
   some_list : 0 < length lists
   some_list = let e = t.one_list in omega arith
 
@@ -116,7 +116,7 @@ module _ (states : List PairState) (lists : List (List ℕ)) (cells : ℕ) (t : 
   other_stands_not other h = other ((t.ready.exact p).0 h)
 
   made : (states' : List PairState) (lists' : List (List ℕ)) (cells' : ℕ) (xs : List ℕ) → length states' ≡ length states → length lists' ≡ length lists → cells' ≡ cells →
-      list_at lists' 0 ≡ xs → IsReadyList states' xs → IsTable states' lists' cells'
+      list_at lists' 0 ≡ xs → IsReadyList states' xs → AreStandings states' lists' cells'
   made states' lists' cells' xs s l c e r = record {
     one_list = l ∙ t.one_list;
     one_cell_each = c ∙ t.one_cell_each ∙ sym s;
@@ -124,17 +124,17 @@ module _ (states : List PairState) (lists : List (List ℕ)) (cells : ℕ) (t : 
   }
 
   pub mark_ready : (s : PairState) → s ≢ state.Ready → (lists' : List (List ℕ)) (cells' : ℕ) → lists' ≡ slice_set lists 0 (without (list_at lists 0) p) → cells' ≡ cells →
-      IsTable (slice_set states p s) lists' cells'
+      AreStandings (slice_set states p s) lists' cells'
   mark_ready s other lists' cells' e c = made (slice_set states p s) lists' cells' (without (list_at lists 0) p) (length-set states p s)
       (ap length e ∙ length-set lists 0 (without (list_at lists 0) p)) c (ap (λ ls. list_at ls 0) e ∙ listed (without (list_at lists 0) p))
       (marked states (list_at lists 0) t.ready p within s other)
 
-  pub mark_other : (s : PairState) → s ≢ state.Ready → slice_get states p ≢ Some state.Ready → IsTable (slice_set states p s) lists cells
+  pub mark_other : (s : PairState) → s ≢ state.Ready → slice_get states p ≢ Some state.Ready → AreStandings (slice_set states p s) lists cells
   mark_other s other not_ready = made (slice_set states p s) lists cells (without (list_at lists 0) p) (length-set states p s) refl refl
       (sym (without_none (list_at lists 0) p (other_stands_not not_ready))) (marked states (list_at lists 0) t.ready p within s other)
 
   pub push_other : slice_get states p ≢ Some state.Ready → (lists' : List (List ℕ)) (cells' : ℕ) → lists' ≡ slice_set lists 0 (list_at lists 0 ++ p ∷ []) → cells' ≡ cells →
-      IsTable (slice_set states p state.Ready) lists' cells'
+      AreStandings (slice_set states p state.Ready) lists' cells'
   push_other not_ready lists' cells' e c = made (slice_set states p state.Ready) lists' cells' (list_at lists 0 ++ p ∷ []) (length-set states p state.Ready)
       (ap length e ∙ length-set lists 0 (list_at lists 0 ++ p ∷ [])) c (ap (λ ls. list_at ls 0) e ∙ listed (list_at lists 0 ++ p ∷ []))
       (pushed states (list_at lists 0) t.ready p within not_ready)

@@ -8,8 +8,8 @@ use Rattle.chase_laws.specs.Joined.{Joined}
 use Rattle.chase_laws.specs.Core.{Task, State, Stands, EndsJoined, EndsApart}
 use Rattle.list_pool.specs.Pool.{without}
 use Rattle.class_book.specs.Classes.{Classes}
-use Rattle.chase_core.specs.Setup.{Prepared}
-use Rattle.chase_core.specs.Table.{Table, IsReadyList}
+use Rattle.chase_core.specs.Setup.{Preparation}
+use Rattle.chase_core.specs.Table.{Standings, IsReadyList}
 use Rattle.chase_core.specs.Running.{state_of, running_with}
 use Rattle.chase_core.specs.Passing.{PassesOver, PassesHint}
 use Rattle.chase_core.specs.Taking.{TakesFirst, TakesHint}
@@ -29,7 +29,7 @@ none_first : (xs : List ℕ) → None ≡ slice_get xs 0 → xs ≡ []
 none_first [] h = refl
 none_first (x ∷ xs) h = absurd (cc)
 
-module _ (S : Prepared) (book : Classes) (old mid : Table) (listed : IsReadyList old.states old.ready) where
+module _ (S : Preparation) (book : Classes) (old mid : Standings) (listed : IsReadyList old.states old.ready) where
   -- all Ready pairs were passed over
   pub takes_none : PassesOver S.task book old mid None → TakesFirst (running_with S book old) (running_with S book mid) None
   takes_none p =
@@ -48,7 +48,7 @@ module _ (S : Prepared) (book : Classes) (old mid : Table) (listed : IsReadyList
       }
 
   -- the first pair whose ends are not joined was handed out
-  pub takes_some : (next : ℕ) (new : Table) → PassesOver S.task book old mid (Some next) → new.states ≡ slice_set mid.states next state.Flying → new.ready ≡ without mid.ready next →
+  pub takes_some : (next : ℕ) (new : Standings) → PassesOver S.task book old mid (Some next) → new.states ≡ slice_set mid.states next state.Flying → new.ready ≡ without mid.ready next →
       TakesFirst (running_with S book old) (running_with S book new) (Some next)
   takes_some next new p states ready =
       let was : slice_get old.states next ≡ Some state.Ready = first_was_ready S.task book old mid p.passed p.have p.listed next (sym p.first) in
@@ -84,8 +84,8 @@ module _ (S : Prepared) (book : Classes) (old mid : Table) (listed : IsReadyList
         only = λ k d i. absurd (omega arith);
         that = tt;
         none = ((λ _. inl h.0), (λ _. refl));
-        left = λ e. h.0 (subst (λ (t : Table). slice_get t.states hint ≡ Some state.Ready) h.2 e);
-        ready = ap (λ (t : Table). t.ready) h.2 ∙ sym (without_none old.ready hint (λ c. h.0 ((listed.exact hint).0 c)));
+        left = λ e. h.0 (subst (λ (t : Standings). slice_get t.states hint ≡ Some state.Ready) h.2 e);
+        ready = ap (λ (t : Standings). t.ready) h.2 ∙ sym (without_none old.ready hint (λ c. h.0 ((listed.exact hint).0 c)));
       }
     ]
   ]
@@ -95,12 +95,12 @@ module _ (S : Prepared) (book : Classes) (old mid : Table) (listed : IsReadyList
       only_one (suc k) d i P h = absurd (omega arith)
 
   -- it was handed out
-  pub takes_hint : (hint next : ℕ) (new : Table) → PassesHint S.task book old mid hint (Some next) → hint < length old.states → new.states ≡ slice_set mid.states next state.Flying → new.ready ≡ without mid.ready next →
+  pub takes_hint : (hint next : ℕ) (new : Standings) → PassesHint S.task book old mid hint (Some next) → hint < length old.states → new.states ≡ slice_set mid.states next state.Flying → new.ready ≡ without mid.ready next →
       TakesHint (running_with S book old) (running_with S book new) hint (Some next)
   takes_hint hint next new p within states ready = elim p.cases [
     | inl h ↦
         (let same : next ≡ hint = same_Some next hint h.2 in
-        let set : new.states ≡ slice_set old.states hint state.Flying = states ∙ ap (λ (t : Table). slice_set t.states next state.Flying) h.3 ∙ ap (λ n. slice_set old.states n state.Flying) same in
+        let set : new.states ≡ slice_set old.states hint state.Flying = states ∙ ap (λ (t : Standings). slice_set t.states next state.Flying) h.3 ∙ ap (λ n. slice_set old.states n state.Flying) same in
         record {
           passed = [];
           event = (
@@ -112,7 +112,7 @@ module _ (S : Prepared) (book : Classes) (old mid : Table) (listed : IsReadyList
           that = same;
           none = ((λ e. absurd (cc)), (λ k. absurd (elim k [ inl r ↦ r h.0 | inr r ↦ joined_apart S.task (state_of book old) hint r h.1 ])));
           left = λ e. let f : Some state.Flying ≡ Some state.Ready = sym (set_here old.states hint state.Flying within) ∙ sym (ap (λ ss. slice_get ss hint) set) ∙ e in cc;
-          ready = ready ∙ ap (λ (t : Table). without t.ready next) h.3 ∙ ap (without old.ready) same;
+          ready = ready ∙ ap (λ (t : Standings). without t.ready next) h.3 ∙ ap (without old.ready) same;
         })
     | inr rest ↦ elim rest [
       | inl h ↦ absurd (let e = h.2 in cc)
@@ -135,9 +135,9 @@ module _ (S : Prepared) (book : Classes) (old mid : Table) (listed : IsReadyList
 
   pub hint_long : (hint : ℕ) (next : Option ℕ) → PassesHint S.task book old mid hint next → length mid.states ≡ length old.states
   hint_long hint next p = elim p.cases [
-    | inl h ↦ ap (λ (t : Table). length t.states) h.3
+    | inl h ↦ ap (λ (t : Standings). length t.states) h.3
     | inr rest ↦ elim rest [
       | inl h ↦ ap length h.3 ∙ length-set_each old.states (hint ∷ []) state.Joined
-      | inr h ↦ ap (λ (t : Table). length t.states) h.2
+      | inr h ↦ ap (λ (t : Standings). length t.states) h.2
     ]
   ]

@@ -5,8 +5,8 @@ use Rattle.std.proofs.lemmas.List.{take_more, get_or_push, length_push, get_or_a
 use Rattle.std.proofs.lemmas.List.Elements.{All-push, All-weaker}
 use Rattle.std.proofs.lemmas.Option.{slice_get_within, get_or_from_slice_get}
 use Rattle.chase_laws.specs.Core.{name_count, PairAt}
-use Rattle.near_lists.specs.Lists.{list_at}
-use Rattle.chase_core.specs.Setup.{Prepared, near_count, IsMost, IsWidest}
+use Rattle.list_pool.specs.Pool.{list_at}
+use Rattle.chase_core.specs.Setup.{Preparation, near_count, IsMost, IsWidest}
 
 pub most_none : (near : List (List ℕ)) → IsMost near [] 0
 most_none near = record { bounds = λ k d h. absurd (omega arith); reached = inl refl }
@@ -36,7 +36,7 @@ most_more near pairs i most h m = subst (λ ps. IsMost near ps (max most (near_c
     (most_push near (take i pairs) (get_or pairs i (0, 0)) most m)
 
 -- the widest view has room for what is near to the ends of a pair
-pub room_enough : (S : Prepared) → IsWidest S → (p a b : ℕ) → PairAt S.task p a b → min (length (list_at S.near.near a) + length (list_at S.near.near b)) (name_count S.task) ≤ S.widest
+pub room_enough : (S : Preparation) → IsWidest S → (p a b : ℕ) → PairAt S.task p a b → min (length (list_at S.near.near a) + length (list_at S.near.near b)) (name_count S.task) ≤ S.widest
 room_enough S w p a b at =
     let bound = w.is_most.bounds p (a, b) (slice_get_within S.task.pairs p (a, b) at) in
     let here = subst (λ q. near_count S.near.near q ≤ w.most) (get_or_from_slice_get S.task.pairs p (a, b) (a, b) at) bound in

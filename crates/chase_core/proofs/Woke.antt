@@ -13,14 +13,14 @@ use Rattle.chase_laws.specs.declared.pair_state.PairState.TheVariants as state
 use Rattle.chase_laws.specs.Core.{Task, PairAt, IsTouched, Wakes, set_each}
 use Rattle.list_pool.specs.Pool.{without}
 use Rattle.class_book.specs.Classes.{Classes}
-use Rattle.chase_core.specs.Table.{Table}
+use Rattle.chase_core.specs.Table.{Standings}
 use Rattle.chase_core.specs.Running.{state_of}
 use Rattle.chase_core.specs.Gathering.{SetsAside}
 use Rattle.chase_core.specs.Settling.{RiseInOrder}
 use Rattle.chase_core.proofs.Tables.{set_here, set_other}
 use Rattle.chase_core.proofs.Aside.{length-set_each, set_each_other, set_each_here, stands_or_not}
 
-module _ (P : ℕ → Type 0) (zero one two three : Table) (p : ℕ) (aside sorted : List ℕ) (within : p < length zero.states)
+module _ (P : ℕ → Type 0) (zero one two three : Standings) (p : ℕ) (aside sorted : List ℕ) (within : p < length zero.states)
     (states_one : one.states ≡ slice_set zero.states p state.Joined) (ready_one : one.ready ≡ without zero.ready p)
     (s : SetsAside P one two [] aside) (moves : IsPermutation aside sorted) (up : IsStrictlyIncreasing sorted)
     (states_three : three.states ≡ set_each two.states sorted state.Ready) (ready_three : three.ready ≡ two.ready ++ sorted) where

@@ -3,18 +3,18 @@ use Rattle.std.specs.Prelude.{List, ◌++◌, ℕ, Some, All, AllPairs, Contains
 use Rattle.chase_laws.specs.declared.pair_state.PairState.{PairState}
 use Rattle.chase_laws.specs.declared.pair_state.PairState.TheVariants as state
 use Rattle.chase_laws.specs.Core.{name_count, set_each}
-use Rattle.near_lists.specs.Lists.{list_at}
+use Rattle.list_pool.specs.Pool.{list_at}
 use Rattle.class_book.specs.Classes.{Classes, class_of}
-use Rattle.chase_core.specs.Ends.{HasEnd}
-use Rattle.chase_core.specs.Setup.{Prepared}
-use Rattle.chase_core.specs.Table.{Table}
+use Rattle.near_lists.specs.Turning.{HasEnd}
+use Rattle.chase_core.specs.Setup.{Preparation}
+use Rattle.chase_core.specs.Table.{Standings}
 
 -- a pair looks at a name: the name is near to one of its ends
-abbrev pub LooksAt : Prepared → ℕ → ℕ → Type 0
+abbrev pub LooksAt : Preparation → ℕ → ℕ → Type 0
 LooksAt S q n = (e : ℕ) × (e < name_count S.task) × Contains (list_at S.near.near e) n × HasEnd S.task.pairs q e
 
 -- the Missed pairs with a property were set aside as Flying, each once, at the end of a list
-pub record SetsAside (P : ℕ → Type 0) (old new : Table) (before after : List ℕ) : Type 0 where
+pub record SetsAside (P : ℕ → Type 0) (old new : Standings) (before after : List ℕ) : Type 0 where
   pub more : List ℕ
   pub list : after ≡ before ++ more
   pub states : new.states ≡ set_each old.states more state.Flying

@@ -1,5 +1,4 @@
 pub mod Table
-pub mod Ends
 pub mod Noted
 pub mod Setup
 pub mod Kept

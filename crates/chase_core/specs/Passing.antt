@@ -4,17 +4,17 @@ use Rattle.chase_laws.specs.declared.pair_state.PairState.TheVariants as state
 use Rattle.chase_laws.specs.Core.{Task, Stands, EndsJoined, EndsApart, set_each}
 use Rattle.list_pool.specs.Pool.{without}
 use Rattle.class_book.specs.Classes.{Classes}
-use Rattle.chase_core.specs.Table.{Table, IsReadyList}
+use Rattle.chase_core.specs.Table.{Standings, IsReadyList}
 use Rattle.chase_core.specs.Running.{state_of}
 
 -- pairs at the front of the Ready list, which were Ready and whose ends are joined, are Joined now
-pub record HavePassed (T : Task) (book : Classes) (old new : Table) (passed : List ℕ) : Type 0 where
+pub record HavePassed (T : Task) (book : Classes) (old new : Standings) (passed : List ℕ) : Type 0 where
   pub front : old.ready ≡ passed ++ new.ready
   pub states : new.states ≡ set_each old.states passed state.Joined
   pub all : All (λ p. Stands (state_of book old) p state.Ready × EndsJoined T (state_of book old) p) passed
 
 -- so many were passed over that the ends of the first pair that is left are not joined, or that no pair is left
-pub record PassesOver (T : Task) (book : Classes) (old new : Table) (next : Option ℕ) : Type 0 where
+pub record PassesOver (T : Task) (book : Classes) (old new : Standings) (next : Option ℕ) : Type 0 where
   pub passed : List ℕ
   pub have : HavePassed T book old new passed
   pub first : next ≡ slice_get new.ready 0
@@ -22,7 +22,7 @@ pub record PassesOver (T : Task) (book : Classes) (old new : Table) (next : Opti
   pub apart : IfSome next (λ p. EndsApart T (state_of book old) p)
 
 -- the hinted pair is answered where it is Ready and its ends are not joined; where they are joined, it was passed over
-pub record PassesHint (T : Task) (book : Classes) (old new : Table) (hint : ℕ) (next : Option ℕ) : Type 0 where
+pub record PassesHint (T : Task) (book : Classes) (old new : Standings) (hint : ℕ) (next : Option ℕ) : Type 0 where
   pub cases : (Stands (state_of book old) hint state.Ready × EndsApart T (state_of book old) hint × (next ≡ Some hint) × (new ≡ old))
       ⊎ ((Stands (state_of book old) hint state.Ready × EndsJoined T (state_of book old) hint × (next ≡ None)
       × (new.states ≡ set_each old.states (hint ∷ []) state.Joined) × (new.ready ≡ without old.ready hint))

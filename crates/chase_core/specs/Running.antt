@@ -2,17 +2,17 @@
 use Rattle.std.specs.Prelude.{ℕ, length, min, ◌≡◌, ◌≤◌, ◌-◌}
 use Rattle.class_book.specs.Classes.{Classes}
 use Rattle.chase_laws.specs.Core.{Task, IsTask, State, name_count, IsSound}
-use Rattle.chase_core.specs.Setup.{Prepared}
-use Rattle.chase_core.specs.Table.{Table, IsReadyList}
+use Rattle.chase_core.specs.Setup.{Preparation}
+use Rattle.chase_core.specs.Table.{Standings, IsReadyList}
 
 -- what it works on, the classes with the journal, and where the pairs stand with the Ready list
 pub record Running : Type 0 where
-  pub setup : Prepared
+  pub setup : Preparation
   pub book : Classes
-  pub table : Table
+  pub table : Standings
 
 -- the state of the core that a book and a table make
-abbrev pub state_of : Classes → Table → State
+abbrev pub state_of : Classes → Standings → State
 state_of book table = record { journal = book.journal; labels = book.labels; pairs = table.states }
 
 -- the state of the core that a chase is in
@@ -20,7 +20,7 @@ abbrev pub state_in : Running → State
 state_in C = state_of C.book C.table
 
 -- the chase that its parts make
-abbrev pub running_with : Prepared → Classes → Table → Running
+abbrev pub running_with : Preparation → Classes → Standings → Running
 running_with setup book table = record { setup = setup; book = book; table = table }
 
 -- for how many identifications there is room: no journal can be longer

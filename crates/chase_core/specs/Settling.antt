@@ -18,7 +18,7 @@ use Rattle.chase_core.specs.declared.ticket.Outcome.{Outcome}
 use Rattle.chase_core.specs.declared.ticket.Outcome.TheVariants as outcome
 use Rattle.chase_core.specs.declared.ticket.Settled.{Settled}
 use Rattle.chase_core.specs.declared.ticket.Settled.TheVariants as settled
-use Rattle.chase_core.specs.Table.{Table}
+use Rattle.chase_core.specs.Table.{Standings}
 use Rattle.chase_core.specs.Running.{Running, state_in}
 
 -- the identification of a pair by what was found
@@ -46,19 +46,19 @@ pub record IsFirstOvertaken (labels : List ℕ) (view : List (ℕ × ℕ)) (node
 
 -- The pairs of a list stood at one state and are Ready now, they are all such pairs, ascending, and they went to the end
 -- of the Ready list.
-pub record RiseInOrder (from : PairState) (states : List PairState) (ready : List ℕ) (new : Table) (woken : List ℕ) : Type 0 where
+pub record RiseInOrder (from : PairState) (states : List PairState) (ready : List ℕ) (new : Standings) (woken : List ℕ) : Type 0 where
   pub ascending : IsStrictlyIncreasing woken
   pub exact : (q : ℕ) → Contains woken q ↔ ((slice_get states q ≡ Some from) × (slice_get new.states q ≡ Some state.Ready))
   pub last : new.ready ≡ ready ++ woken
 
 -- the pair goes last on the Ready list, where it was not there already
-pub record GoesLast (old : Table) (p : ℕ) (new : Table) : Type 0 where
+pub record GoesLast (old : Standings) (p : ℕ) (new : Standings) : Type 0 where
   pub kept : slice_get old.states p ≡ Some state.Ready → new.ready ≡ old.ready
   pub last : slice_get old.states p ≢ Some state.Ready → new.ready ≡ old.ready ++ p ∷ []
 
 -- a pair without a step by a view, where its ends are not joined: it is Missed where each label is the present one, and
 -- else Ready
-abbrev pub SettlesMissed : Classes → Table → Table → List (ℕ × ℕ) → ℕ → Settled → Type 0
+abbrev pub SettlesMissed : Classes → Standings → Standings → List (ℕ × ℕ) → ℕ → Settled → Type 0
 SettlesMissed book old new view p settled.Missed =
     ((k n l : ℕ) → slice_get view k ≡ Some (n, l) → l ≡ slice_index book.labels n)
     × (new.states ≡ slice_set old.states p state.Missed) × (new.ready ≡ without old.ready p)

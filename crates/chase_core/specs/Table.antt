@@ -5,7 +5,7 @@ use Rattle.chase_laws.specs.declared.pair_state.PairState.{PairState}
 use Rattle.chase_laws.specs.declared.pair_state.PairState.TheVariants as state
 
 -- where each pair stands, and the Ready list, from whose front pairs are taken
-pub record Table : Type 0 where
+pub record Standings : Type 0 where
   pub states : List PairState
   pub ready : List ℕ
 
@@ -15,7 +15,7 @@ pub record IsReadyList (states : List PairState) (ready : List ℕ) : Type 0 whe
   pub once : AllPairs (λ m n. m ≢ n) ready
 
 -- what a table keeps: a pool with one list, which is the Ready list, and with a cell for each pair
-pub record IsTable (states : List PairState) (lists : List (List ℕ)) (cells : ℕ) : Type 0 where
+pub record AreStandings (states : List PairState) (lists : List (List ℕ)) (cells : ℕ) : Type 0 where
   pub one_list : length lists ≡ 1
   pub one_cell_each : cells ≡ length states
   pub ready : IsReadyList states (list_at lists 0)

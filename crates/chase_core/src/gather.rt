@@ -2,7 +2,7 @@
 
 ghost use Rattle.std.specs.Prelude.{◌≡◌, ◌<◌, ℕ, Some, Contains, length, vec_capacity};
 ghost use Rattle.chase_laws.specs.Core.{name_count};
-ghost use Rattle.chase_core.specs.Ends.{HasEnd};
+ghost use Rattle.near_lists.specs.Turning.{HasEnd};
 ghost use Rattle.chase_core.specs.Gathering.{LooksAt, SetsAside, AreAside, IsTail, tail_of};
 
 use crate::Setup;

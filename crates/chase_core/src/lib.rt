@@ -11,7 +11,6 @@
 //! - `woken`: the pairs that an entry woke
 //! - `held_law`: the law of pairs that are handed out
 //! - `table`: where the pairs stand, and the Ready list
-//! - `pair_index`: the pairs of each name
 //! - `take`: which pair is handed out
 //! - `show`: two lists of names, shown with their labels
 //! - `settle`: what becomes of a pair that was searched
@@ -25,7 +24,6 @@
 mod chase;
 mod gather;
 pub mod held_law;
-mod pair_index;
 mod recall;
 mod relabel;
 mod settle;
@@ -42,7 +40,5 @@ pub use chase::Chase;
 pub use chase_laws::PairState;
 pub use setup::Setup;
 pub use ticket::{Matched, Outcome, Settled, Ticket};
+pub use tried::outcome_of;
 pub use woken::Woken;
-
-#[cfg(test)]
-mod tests;

@@ -2,22 +2,21 @@
 
 ghost use Rattle.std.specs.Prelude.{◌≡◌, ◌<◌, ◌+◌, ◌^◌, ◌↔◌, ℕ, All, Contains, IfOk, length};
 ghost use Rattle.std.specs.List.Sorted.{IsStrictlyIncreasing};
+ghost use Rattle.chase_laws.specs.Candidate.{AreAscending};
 ghost use Rattle.chase_laws.specs.Chase.{IsAble};
-ghost use Rattle.chase_laws.specs.Shape.{IsPattern};
 ghost use Rattle.chase_laws.specs.Core.{IsTask, name_count};
 ghost use Rattle.paired_search.specs.Plans.{ArePlans};
-ghost use Rattle.chase_core.specs.Ends.{HasEnd};
-ghost use Rattle.chase_core.specs.Setup.{Ascend, IsMost, IsNearTo, IsWidest};
+ghost use Rattle.near_lists.specs.Turning.{HasEnd};
+ghost use Rattle.chase_core.specs.Setup.{IsMost, IsNearTo, IsWidest};
 
-use crate::pair_index::index_ends;
-use chase_laws::Pattern;
+use chase_laws::{Pattern, all_valid};
 use gk_base::NoMemory;
 use key_plan::Plan;
-use near_lists::Near;
+use near_lists::{Near, Rows, pairs_by_end};
 use paired_search::plan_all;
 use std::alloc::Global;
 use std::marker::Model;
-use typed_graph::{Graph, Index};
+use typed_graph::Graph;
 
 /// A graph, keys, and the pairs of names that a chase searches, with what is near to each name. The pairs have
 /// numbers by their places. Contracts see the three as a task, the keys' plans, what is near, and the widest view.
@@ -28,36 +27,21 @@ pub struct Setup {
     plans: Vec<Plan>,
     near: Near,
     pairs: Vec<(u32, u32)>,
-    ends: Index,
+    /// The numbers of each name's pairs.
+    ends: Rows,
     widest: u32,
 }
 
 impl Model for Setup {
-    ghost use Rattle.chase_core.specs.Setup.{Prepared, IsPrepared};
+    ghost use Rattle.chase_core.specs.Setup.{Preparation, IsPreparation};
 
-    ghost Value = { Prepared };
+    ghost Value = { Preparation };
 
-    ghost use Rattle.chase_core.specs.Kept.{prepared_of};
+    ghost use Rattle.chase_core.specs.Kept.{preparation_of};
 
-    ghost view = { prepared_of };
+    ghost view = { preparation_of };
 
-    ghost invariant = { λ s. IsPrepared (prepared_of s) s.ends };
-}
-
-/// What holds of every pattern: it is valid.
-fn is_valid(pattern: &Pattern)
-    ensures { IsPattern pattern.now }
-{
-    let _ = &pattern.slots;
-}
-
-/// What holds of every list of patterns: each is valid.
-fn are_valid(patterns: &[Pattern])
-    ensures { All IsPattern patterns.now }
-{
-    for pattern in patterns {
-        is_valid(pattern);
-    }
+    ghost invariant = { λ s. IsPreparation (preparation_of s) s.ends };
 }
 
 /// The greatest number of names near to the ends of one of the pairs.
@@ -85,16 +69,16 @@ impl Setup {
     ) -> Result<Setup, NoMemory>
         requires few_patterns { length patterns.items < 2 ^ 32 }
         requires few_pairs { length pairs.items < 2 ^ 32 }
-        requires ascend { Ascend pairs.items }
+        requires ascend { AreAscending pairs.items }
         requires named { All (λ p. (p.0 < p.1) × (p.1 < length graph.literal)) pairs.items }
         requires able { (a b : ℕ) → IsAble graph patterns.items a b → Contains pairs.items (a, b) }
         ensures { IfOk result (λ s. s.task ≡ record { graph = graph; patterns = patterns.items; pairs = pairs.items }) }
     {
         let names = graph.names();
-        are_valid(&patterns);
+        all_valid(&patterns);
         let plans = plan_all(alloc, &patterns)?;
-        let near = Near::build(alloc, &graph, &patterns, &plans)?;
-        let ends = index_ends(alloc, &pairs, names)?;
+        let near = Near::build(alloc, &graph, &patterns)?;
+        let ends = pairs_by_end(alloc, &pairs, names)?;
         let widest = most_near(&near, &pairs).min(u64::from(names)) as u32;
         Ok(Setup {
             graph,
@@ -154,7 +138,7 @@ impl Setup {
     pub fn pairs(&self) -> &[(u32, u32)]
         ensures pairs { result.now ≡ self.now.task.pairs }
         ensures few { length self.now.task.pairs < 2 ^ 32 }
-        ensures ascend { Ascend self.now.task.pairs }
+        ensures ascend { AreAscending self.now.task.pairs }
         ensures task { IsTask self.now.task }
     {
         &self.pairs
@@ -166,7 +150,7 @@ impl Setup {
         ensures ascending { IsStrictlyIncreasing result.now }
         ensures exact { (p : ℕ) → Contains result.now p ↔ HasEnd self.now.task.pairs p e }
     {
-        self.ends.find(e, 0)
+        self.ends.of(e as usize)
     }
 
     /// A room that suffices for the view of any pair: the greatest number of names near to the ends of a pair, those

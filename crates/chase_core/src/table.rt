@@ -4,7 +4,7 @@ ghost use Rattle.std.specs.Prelude.{◌≡◌, ◌≢◌, ◌<◌, ◌++◌, ◌
 ghost use Rattle.std.specs.List.{range_with_len};
 ghost use Rattle.chase_laws.specs.declared.pair_state.PairState.TheVariants as state;
 ghost use Rattle.list_pool.specs.Pool.{list_at, without};
-ghost use Rattle.chase_core.specs.Table.{IsReadyList, IsTable};
+ghost use Rattle.chase_core.specs.Table.{IsReadyList, AreStandings};
 
 use chase_laws::PairState;
 use gk_base::NoMemory;
@@ -22,13 +22,13 @@ pub struct PairTable {
 
 impl Model for PairTable {
     ghost use Rattle.list_pool.specs.Pool.{list_at};
-    ghost use Rattle.chase_core.specs.Table.{Table, IsTable};
+    ghost use Rattle.chase_core.specs.Table.{Standings, AreStandings};
 
-    ghost Value = { Table };
+    ghost Value = { Standings };
 
     ghost view = { λ t. record { states = t.states.items; ready = list_at t.waiting.lists 0 } };
 
-    ghost invariant = { λ t. IsTable t.states.items t.waiting.lists t.waiting.cells };
+    ghost invariant = { λ t. AreStandings t.states.items t.waiting.lists t.waiting.cells };
 }
 
 /// So many Ready pairs.
@@ -57,10 +57,10 @@ fn all_waiting(alloc: Global, count: u32) -> Result<Pool, NoMemory>
 
 /// Takes a pair off the list, if it is there, and writes where it stands.
 fn mark_parts(states: &mut Vec<PairState>, waiting: &mut Pool, pair: u32, to: PairState)
-    requires table { IsTable states.old.items waiting.old.lists waiting.old.cells }
+    requires table { AreStandings states.old.items waiting.old.lists waiting.old.cells }
     requires pair { pair < length states.old.items }
     requires other { to ≢ state.Ready }
-    ensures table { IsTable states.new.items waiting.new.lists waiting.new.cells }
+    ensures table { AreStandings states.new.items waiting.new.lists waiting.new.cells }
     ensures states { states.new.items ≡ slice_set states.old.items pair to }
     ensures ready { list_at waiting.new.lists 0 ≡ without (list_at waiting.old.lists 0) pair }
 {
@@ -72,9 +72,9 @@ fn mark_parts(states: &mut Vec<PairState>, waiting: &mut Pool, pair: u32, to: Pa
 
 /// Puts a pair on the list, if it is not there, and makes it Ready.
 fn make_ready_parts(states: &mut Vec<PairState>, waiting: &mut Pool, pair: u32)
-    requires table { IsTable states.old.items waiting.old.lists waiting.old.cells }
+    requires table { AreStandings states.old.items waiting.old.lists waiting.old.cells }
     requires pair { pair < length states.old.items }
-    ensures table { IsTable states.new.items waiting.new.lists waiting.new.cells }
+    ensures table { AreStandings states.new.items waiting.new.lists waiting.new.cells }
     ensures states { states.new.items ≡ slice_set states.old.items pair state.Ready }
     ensures kept { slice_get states.old.items pair ≡ Some state.Ready → list_at waiting.new.lists 0 ≡ list_at waiting.old.lists 0 }
     ensures last { slice_get states.old.items pair ≢ Some state.Ready → list_at waiting.new.lists 0 ≡ list_at waiting.old.lists 0 ++ pair ∷ [] }

@@ -1,5 +1,5 @@
 -- What a finished state has, what a view shows, and how many entries there can be.
-use Rattle.std.proofs.Common.{List, [], ◌∷◌, ◌++◌, ℕ, zero, suc, true, false, Bool, Option, Some, None, All, Contains, slice_get, get_or, take, unwrap_or, length, ◌≡◌, ◌<◌, ◌≤◌, ◌+◌, ◌⊎◌, inl, inr, IsTrue, refl, sym, ◌∙◌, ap, subst, arith, eqb, eqb-true, ne_eqb, length-append}
+use Rattle.std.proofs.Common.{List, [], ◌∷◌, ◌++◌, ℕ, zero, suc, true, false, Bool, Option, Some, All, Contains, slice_get, get_or, take, unwrap_or, length, ◌≡◌, ◌<◌, ◌≤◌, ◌+◌, ◌⊎◌, inl, inr, IsTrue, refl, sym, ◌∙◌, ap, subst, arith, eqb, eqb-true, ne_eqb, length-append}
 use Rattle.std.specs.List.{list_any}
 use Rattle.std.proofs.lemmas.Bool.{or_cases}
 use Rattle.std.proofs.lemmas.Option.{slice_get_within, slice_get-get_or}
@@ -14,9 +14,10 @@ use Rattle.chase_laws.specs.Graph.{NumberedGraph}
 use Rattle.chase_laws.specs.Valuation.{IsMatch, Matches}
 use Rattle.chase_laws.specs.Chase.{IsStep, IsLean, IsClosed}
 use Rattle.chase_laws.specs.Joined.{links, joined_by, Joined}
-use Rattle.chase_laws.specs.View.{label_in, both_equal, same_by}
+use Rattle.chase_laws.specs.View.{label_in, same_by}
 use Rattle.chase_laws.specs.Core.{Task, IsTask, State, name_count, ListsNear, IsPresent, PairAt, EndsApart, IsFinished, IsSound}
 use Rattle.chase_laws.proofs.JoinedLaws.{joined_refl}
+use Rattle.chase_laws.proofs.EntityLaws.{both_equal_parts}
 use Rattle.chase_laws.proofs.Lists.{slice_get-from_Contains, slice_get-within, All-at, Contains-from_slice_get}
 use Rattle.chase_laws.proofs.ChaseLaws.{IsMatch-grows}
 use Rattle.chase_laws.proofs.Derivations.{IsLean-push, joined_by_last}
@@ -42,11 +43,6 @@ pub finished_closed : (T : Task) → IsTask T → (S : State) → IsSound T S �
 finished_closed T ok S sound done = IsClosed-from_ascending T.graph T.patterns S.journal (finished_pair T ok S sound done)
 
 -- ---- a view
-
-both_equal_parts : (o p : Option ℕ) → both_equal o p ≡ true → (k : ℕ) × (o ≡ Some k) × (p ≡ Some k)
-both_equal_parts (Some k) (Some l) h = (k, refl, ap Some (sym (eqb-true k l h)))
-both_equal_parts (Some k) None h = absurd (cc)
-both_equal_parts None p h = absurd (cc)
 
 -- what is the same by a view with the labels of a state is joined in that state
 pub view_joined : (T : Task) → IsTask T → (S : State) → IsSound T S → (a b : ℕ) (view : List (ℕ × ℕ)) → ListsNear T a b view → IsPresent S view →

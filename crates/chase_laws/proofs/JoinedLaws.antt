@@ -1,6 +1,7 @@
 -- What pairs join is the least equivalence that has them.
-use Rattle.std.proofs.Common.{List, [], ◌∷◌, ◌++◌, ℕ, true, ◌||◌, ◌&&◌, ◌≡◌, ◌⊎◌, inl, inr, refl, sym, ◌∙◌, subst, eq-eqb, eqb-true, true≢false}
+use Rattle.std.proofs.Common.{List, [], ◌∷◌, ◌++◌, ℕ, zero, suc, Bool, true, Contains, ap, arith, ◌||◌, ◌&&◌, ◌≡◌, ◌⊎◌, inl, inr, refl, sym, ◌∙◌, subst, eq-eqb, eqb-true, true≢false}
 use Rattle.std.proofs.lemmas.Bool.{or_cases, and_parts, and_from, or_left, or_right, cases_Bool, false_from_ne_true}
+use Rattle.std.specs.Cmp.{IsEquivalence}
 use Rattle.chase_laws.specs.Joined.{joined}
 
 -- what joins two numbers joined under one more pair
@@ -133,3 +134,30 @@ Within-both ps qs u v a b = elim (cases_Bool (joined ps a b)) [
 -- one more pair at the end, as at the head
 pub joined-push : (ps : List (ℕ × ℕ)) (c d a b : ℕ) → joined (ps ++ (c, d) ∷ []) a b ≡ (joined ps a b || (joined ps a c && joined ps d b) || (joined ps a d && joined ps c b))
 joined-push ps c d a b = Within-both (ps ++ (c, d) ∷ []) ((c, d) ∷ ps) (Within-push_head ps c d) (Within-head_push ps c d) a b ∙ unfold joined in refl
+
+-- each pair of the list is joined
+pub joined_has : (ps : List (ℕ × ℕ)) (a b : ℕ) → Contains ps (a, b) → joined ps a b ≡ true
+joined_has [] a b h = absurd (let l = h.1 in omega arith)
+joined_has (p ∷ ps) a b (zero, l, e) =
+    let x : p.0 ≡ a = ap (λ (q : ℕ × ℕ). q.0) e in
+    let y : p.1 ≡ b = ap (λ (q : ℕ × ℕ). q.1) e in
+    subst (λ m. joined (p ∷ ps) m b ≡ true) x (subst (λ n. joined (p ∷ ps) p.0 n ≡ true) y (joined_head p.0 p.1 ps))
+joined_has (p ∷ ps) a b (suc k, l, e) = joined_more p.0 p.1 ps a b (joined_has ps a b (k, omega arith, e))
+
+-- an equivalence that has the pairs has all that they join
+pub joined_least : (ps : List (ℕ × ℕ)) (same : ℕ → ℕ → Bool) → IsEquivalence same → ((a b : ℕ) → Contains ps (a, b) → same a b ≡ true) →
+    (a b : ℕ) → joined ps a b ≡ true → same a b ≡ true
+joined_least [] same laws has a b h = subst (λ n. same a n ≡ true) (joined_nil a b h) (laws.refl a)
+joined_least (p ∷ ps) same laws has a b h =
+    let rest = joined_least ps same laws (λ c d k. has c d (suc k.0, (let l = k.1 in omega arith), k.2)) in
+    let here : same p.0 p.1 ≡ true = has p.0 p.1 (0, omega arith, refl) in
+    elim (joined_parts p.0 p.1 ps a b h) [
+      | inl k ↦ rest a b k
+      | inr m ↦ elim m [
+        | inl k ↦ chain a p.0 p.1 b (rest a p.0 k.0) here (rest p.1 b k.1)
+        | inr k ↦ chain a p.1 p.0 b (rest a p.1 k.0) (sym (laws.symm p.0 p.1) ∙ here) (rest p.0 b k.1)
+      ]
+    ]
+  where
+    chain : (a c d b : ℕ) → same a c ≡ true → same c d ≡ true → same d b ≡ true → same a b ≡ true
+    chain a c d b x y z = laws.congr a c b x ∙ laws.congr c d b y ∙ z

@@ -1,5 +1,6 @@
 pub mod JoinedLaws
 pub mod Patterns
+pub mod Walks
 pub mod Lists
 pub mod Derivations
 pub mod ChaseLaws
@@ -8,6 +9,7 @@ pub mod PairLaws
 pub mod Bound
 pub mod Turned
 pub mod SameRows
+pub mod EntityLaws
 pub mod SmallCases
 pub mod CoreEvents
 pub mod CoreEnd

@@ -1,18 +1,17 @@
 -- What a key looks at is near.
-use Rattle.std.proofs.Common.{List, ℕ, zero, suc, Bool, true, false, Option, Some, None, All, Any, slice_get, slice_index, length, ◌≡◌, ◌↔◌, ◌<◌, ◌≤◌, ◌⊎◌, inl, inr, ◌==◌, ◌||◌, ◌&&◌, IsTrue, IsSomeAnd, refl, sym, ◌∙◌, ap, subst, arith, eqb-true, true≢false}
+use Rattle.std.proofs.Common.{List, [], ◌∷◌, ℕ, zero, suc, Bool, true, false, Option, Some, None, All, Any, Contains, slice_get, slice_index, length, ◌≡◌, ◌↔◌, ◌<◌, ◌≤◌, ◌⊎◌, inl, inr, ◌==◌, ◌||◌, IsTrue, IsSomeAnd, refl, sym, ◌∙◌, ap, subst, arith, eqb-true, true≢false}
 use Rattle.std.specs.List.{list_any}
-use Rattle.std.proofs.lemmas.Bool.{or_cases, and_parts, cases_Bool, cases_eq}
-use Rattle.std.proofs.lemmas.Bool.Decides.{Decides-below_and}
+use Rattle.std.proofs.lemmas.Bool.{or_cases, or_left, and_parts, cases_Bool, cases_eq}
 use Rattle.std.proofs.lemmas.List.Folds.{Any-from_list_any}
 use Rattle.std.proofs.lemmas.Option.{slice_get_within, get_or_from_slice_get}
 use Rattle.chase_laws.specs.declared.pattern.Slot.{Slot}
 use Rattle.chase_laws.specs.declared.pattern.Slot.TheVariants.{Entity, Any as AnyOf, Value, Folded, Fixed}
 use Rattle.chase_laws.specs.declared.pattern.Edge.{Edge}
-use Rattle.chase_laws.specs.Shape.{Shape, touches, marks, reached, IsRadius, IsPattern}
-use Rattle.chase_laws.proofs.Patterns.{pattern_facts, marked}
+use Rattle.chase_laws.specs.Shape.{Shape, touches, marks, reached, IsPattern}
+use Rattle.chase_laws.proofs.Patterns.{pattern_facts, marked, get_or-map_range}
 use Rattle.chase_laws.specs.Graph.{NumberedGraph, HasRow, HasType, IsEntity, IsLiteral}
-use Rattle.chase_laws.specs.Valuation.{IsValuation, FitsSlot, AgreeAt, Matches}
-use Rattle.chase_laws.specs.Near.{IsKeyPredicate, Reaches, IsNear}
+use Rattle.chase_laws.specs.Valuation.{IsValuation, FitsSlot, FitsAt, AgreeAt, Matches}
+use Rattle.chase_laws.specs.Near.{edge_of, StandsAt, IsNear}
 
 past : (p : ℕ → Bool) (n m : ℕ) → p n ≡ false → p m ≡ true → n ≤ m → suc n ≤ m
 past p n m h k le = elim (cases_eq m n) [
@@ -37,43 +36,99 @@ least p n h = elim (least_upto p (suc n)) [
   | inr none ↦ absurd (let k : suc n ≤ n = none n h in omega arith)
 ]
 
--- whether each slot below n is within r
-all_reached : Shape → ℕ → ℕ → Bool
-all_reached Q r zero = true
-all_reached Q r (suc n) = reached Q r n && all_reached Q r n
+-- ---- how far slots are
 
--- a connected pattern has a radius
-pub radius_of : (Q : Shape) → IsPattern Q → (r : ℕ) × IsRadius Q r
-unfolding all_reached
-radius_of Q h =
-    let decides = λ (r : ℕ). Decides-below_and (reached Q r) (λ s. reached Q r s ≡ true) (all_reached Q r) (λ s. ((λ x. x), (λ x. x))) refl (λ _. refl) (length Q.slots) in
-    let found : (r : ℕ) × (all_reached Q r (length Q.slots) ≡ true) × ((m : ℕ) → all_reached Q m (length Q.slots) ≡ true → r ≤ m) =
-    least (λ r. all_reached Q r (length Q.slots)) (length Q.slots) ((decides (length Q.slots)).1 (pattern_facts Q h).connected) in
-    (found.0, record { within = (decides found.0).0 found.1; least = λ n k. found.2 n ((decides n).1 k) })
+reached_within : (Q : Shape) (n s : ℕ) → reached Q n s ≡ true → s < length Q.slots
+reached_within Q zero s h = (marked (λ t. t == 0) (length Q.slots) s h).0
+reached_within Q (suc n) s h = (marked (λ t. reached Q n t || list_any (touches (marks Q n) t) Q.edges) (length Q.slots) s h).0
 
--- an edge at a slot that is reached leads to a number that is reached
-image_step : (G : NumberedGraph) (K : List Shape) (key : ℕ) (Q : Shape) (v : List ℕ) → slice_get K key ≡ Some Q → IsValuation G Q v → (n s : ℕ) →
-    ((u : ℕ) → reached Q n u ≡ true → Reaches G K n (slice_index v 0) (slice_index v u)) →
-    Any (λ e. touches (marks Q n) s e ≡ true) Q.edges → Reaches G K (suc n) (slice_index v 0) (slice_index v s)
-image_step G K key Q v at fits n s before a =
+-- what one edge more reaches
+pub reached_next : (Q : Shape) (n s : ℕ) → s < length Q.slots → (reached Q n s || list_any (touches (marks Q n) s) Q.edges) ≡ true → reached Q (suc n) s ≡ true
+reached_next Q n s within h =
+    let f : ℕ → Bool = λ t. reached Q n t || list_any (touches (marks Q n) t) Q.edges in
+    get_or-map_range f 0 (length Q.slots) s false within ∙ ap f (omega arith) ∙ h
+
+-- what fewer edges reach
+pub reached_later : (Q : Shape) (m n s : ℕ) → m ≤ n → reached Q m s ≡ true → reached Q n s ≡ true
+reached_later Q m zero s le h = let e : m ≡ 0 = omega arith in subst (λ k. reached Q k s ≡ true) e h
+reached_later Q m (suc n) s le h = elim (cases_eq m (suc n)) [
+  | inl e ↦ subst (λ k. reached Q k s ≡ true) e h
+  | inr d ↦ reached_next Q n s (reached_within Q m s h) (or_left (reached Q n s) (list_any (touches (marks Q n) s) Q.edges) (reached_later Q m n s (omega arith) h))
+]
+
+-- ---- what stands at a slot
+
+slot_at : (xs : List Slot) (s : ℕ) → s < length xs → (slot : Slot) × (slice_get xs s ≡ Some slot)
+slot_at [] s h = absurd (omega arith)
+slot_at (x ∷ xs) zero h = (x, refl)
+slot_at (x ∷ xs) (suc s) h = slot_at xs s (omega arith)
+
+image_fits : (G : NumberedGraph) (Q : Shape) (v : List ℕ) → IsValuation G Q v → (s : ℕ) → s < length Q.slots → FitsAt G Q s (slice_index v s)
+image_fits G Q v fits s within = let slot = slot_at Q.slots s within in (slot.0, slot.1, fits.kinds s slot.0 slot.1)
+
+-- what stands at a slot fits it
+pub stands_fit : (G : NumberedGraph) (Q : Shape) (e d s n : ℕ) → StandsAt G Q e d s n → FitsAt G Q s n
+stands_fit G Q e zero s n h = subst (λ t. FitsAt G Q t n) (sym h.0) (subst (λ m. FitsAt G Q 0 m) (sym h.1) h.2)
+stands_fit G Q e (suc d) s n h = h.1
+
+-- an edge and the images of its ends
+image_linked : (G : NumberedGraph) (Q : Shape) (v : List ℕ) → IsValuation G Q v → (e : Edge) → Contains Q.edges e → HasRow G (slice_index v e.from) e.pred (slice_index v e.to)
+image_linked G Q v fits e at = subst (λ (f : Edge). HasRow G (slice_index v f.from) f.pred (slice_index v f.to)) at.2 (fits.edges at.0 e at.1)
+
+-- one edge more
+image_step : (G : NumberedGraph) (Q : Shape) (v : List ℕ) → IsValuation G Q v → (n s : ℕ) → s < length Q.slots → reached Q n s ≡ false →
+    ((u : ℕ) → reached Q n u ≡ true → (d : ℕ) × (d ≤ n) × StandsAt G Q (slice_index v 0) d u (slice_index v u)) →
+    Any (λ e. touches (marks Q n) s e ≡ true) Q.edges → (d : ℕ) × (d ≤ suc n) × StandsAt G Q (slice_index v 0) d s (slice_index v s)
+image_step G Q v fits n s within far before a =
     let e : Edge = a.1 in
-    let row : HasRow G (slice_index v e.from) e.pred (slice_index v e.to) = subst (λ (f : Edge). HasRow G (slice_index v f.from) f.pred (slice_index v f.to)) a.3 (fits.edges a.0 e a.2) in
-    let known : IsKeyPredicate K e.pred = record { key = key; pattern = Q; found = at; edge = (a.0, e, a.2, a.3, refl) } in
+    let at : Contains Q.edges e = (a.0, a.2, a.3) in
+    let row = image_linked G Q v fits e at in
+    let apart : (d : ℕ) → d ≤ n → reached Q d s ≡ true → ⊥ = λ d le h. true≢false (sym (reached_later Q d n s le h) ∙ far) in
     elim (or_cases _ _ a.4) [
-      | inl h ↦ let p = and_parts _ _ h in
-          inr (slice_index v e.from, before e.from p.1, (e.pred, known, inl (subst (λ u. HasRow G (slice_index v e.from) e.pred (slice_index v u)) (eqb-true e.to s p.0) row)))
-      | inr h ↦ let p = and_parts _ _ h in
-          inr (slice_index v e.to, before e.to p.1, (e.pred, known, inr (subst (λ u. HasRow G (slice_index v u) e.pred (slice_index v e.to)) (eqb-true e.from s p.0) row)))
+      | inl h ↦
+          let p = and_parts _ _ h in
+          let same : e.to ≡ s = eqb-true e.to s p.0 in
+          let near = before e.from p.1 in
+          let edge : Contains Q.edges (edge_of e.from e.pred s) = subst (λ u. Contains Q.edges (edge_of e.from e.pred u)) same at in (
+            suc near.0,
+            omega (arith, near.1),
+            (
+              apart near.0 near.1,
+              image_fits G Q v fits s within,
+              (e.from, slice_index v e.from, near.2, (e.pred, inl (edge, subst (λ u. HasRow G (slice_index v e.from) e.pred (slice_index v u)) same row))),
+            ),
+          )
+      | inr h ↦
+          let p = and_parts _ _ h in
+          let same : e.from ≡ s = eqb-true e.from s p.0 in
+          let near = before e.to p.1 in
+          let edge : Contains Q.edges (edge_of s e.pred e.to) = subst (λ u. Contains Q.edges (edge_of u e.pred e.to)) same at in (
+            suc near.0,
+            omega (arith, near.1),
+            (
+              apart near.0 near.1,
+              image_fits G Q v fits s within,
+              (e.to, slice_index v e.to, near.2, (e.pred, inr (edge, subst (λ u. HasRow G (slice_index v u) e.pred (slice_index v e.to)) same row))),
+            ),
+          )
     ]
 
--- the image of a walk from slot 0
-pub image_reached : (G : NumberedGraph) (K : List Shape) (key : ℕ) (Q : Shape) (v : List ℕ) → slice_get K key ≡ Some Q → IsValuation G Q v →
-    (n s : ℕ) → reached Q n s ≡ true → Reaches G K n (slice_index v 0) (slice_index v s)
-image_reached G K key Q v at fits zero s h = ap (slice_index v) (sym (eqb-true s 0 (marked (λ t. t == 0) (length Q.slots) s h).1))
-image_reached G K key Q v at fits (suc n) s h = elim (or_cases _ _ (marked (λ t. reached Q n t || list_any (touches (marks Q n) t) Q.edges) (length Q.slots) s h).1) [
-  | inl k ↦ inl (image_reached G K key Q v at fits n s k)
-  | inr k ↦ image_step G K key Q v at fits n s (image_reached G K key Q v at fits n) (Any-from_list_any _ Q.edges k)
-]
+-- the image of each slot that is reached stands there
+image_reached : (G : NumberedGraph) (Q : Shape) (v : List ℕ) → IsValuation G Q v → (n s : ℕ) → reached Q n s ≡ true →
+    (d : ℕ) × (d ≤ n) × StandsAt G Q (slice_index v 0) d s (slice_index v s)
+image_reached G Q v fits zero s h =
+    let m = marked (λ t. t == 0) (length Q.slots) s h in
+    let same : s ≡ 0 = eqb-true s 0 m.1 in
+    (0, omega arith, (same, ap (slice_index v) same, image_fits G Q v fits 0 (omega (arith, m.0))))
+image_reached G Q v fits (suc n) s h =
+    let m = marked (λ t. reached Q n t || list_any (touches (marks Q n) t) Q.edges) (length Q.slots) s h in
+    elim (cases_Bool (reached Q n s)) [
+      | inl k ↦ let r = image_reached G Q v fits n s k in (r.0, omega (arith, r.1), r.2)
+      | inr k ↦ elim (or_cases _ _ m.1) [
+        | inl y ↦ absurd (true≢false (sym y ∙ k))
+        | inr y ↦ image_step G Q v fits n s m.0 k (image_reached G Q v fits n) (Any-from_list_any _ Q.edges y)
+      ]
+    ]
 
 -- a number with a type stands in a row
 entity_from_type : (G : NumberedGraph) (n t : ℕ) → ¬ (IsLiteral G n) → HasType G n t → IsEntity G n
@@ -83,22 +138,26 @@ entity_from_type G n t other h = (other, go G.rdf_type h)
     go None h = elim h [ ]
     go (Some p) h = (n, p, t, h, inl refl)
 
+-- what is near is an entity
+pub near_entity : (G : NumberedGraph) (K : List Shape) (e n : ℕ) → IsNear G K e n → IsEntity G n
+near_entity G K e n h =
+    let r = h.reach in
+    let f = stands_fit G h.pattern e r.distance r.slot n r.stands in
+    let same : f.0 ≡ Entity r.type_of = let both : Some f.0 ≡ Some (Entity r.type_of) = sym f.1 ∙ r.is in (cc) in
+    let kind : FitsSlot G (Entity r.type_of) n = subst (λ slot. FitsSlot G slot n) same f.2 in
+    entity_from_type G n r.type_of kind.0 kind.1
+
 -- the number at an entity slot is near to the one at slot 0
 pub image_near : (G : NumberedGraph) (K : List Shape) → All IsPattern K → (key : ℕ) (Q : Shape) (v : List ℕ) (s t : ℕ) →
     slice_get K key ≡ Some Q → IsValuation G Q v → slice_get Q.slots s ≡ Some (Entity t) → IsNear G K (slice_index v 0) (slice_index v s)
 image_near G K valid key Q v s t at fits slot =
     let ok : IsPattern Q = subst IsPattern (get_or_from_slice_get K key Q Q at) (valid key Q (slice_get_within K key Q at)) in
-    let r = radius_of Q ok in
-    let kind : FitsSlot G (Entity t) (slice_index v s) = fits.kinds s (Entity t) slot in
+    let r = image_reached G Q v fits (length Q.slots) s ((pattern_facts Q ok).connected s (slice_get_within Q.slots s (Entity t) slot)) in
     record {
       key = key;
       pattern = Q;
       found = at;
-      designates = (Entity (pattern_facts Q ok).first.0, (pattern_facts Q ok).first.1, fits.kinds 0 (Entity (pattern_facts Q ok).first.0) (pattern_facts Q ok).first.1);
-      radius = r.0;
-      is_radius = r.1;
-      reaches = image_reached G K key Q v at fits r.0 s (r.1.within s (slice_get_within Q.slots s (Entity t) slot));
-      entity = entity_from_type G (slice_index v s) t kind.0 kind.1;
+      reach = record { slot = s; type_of = t; is = slot; distance = r.0; stands = r.2 };
     }
 
 -- what two lists that fit need of a sameness is about near numbers

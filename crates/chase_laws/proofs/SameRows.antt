@@ -1,15 +1,16 @@
 -- The rows of a graph are a set: their order and repeats are of no account. Nor is what names are alike to, where no key
 -- has a folded value variable.
-use Rattle.std.proofs.Common.{List, [], ◌∷◌, ℕ, Bool, Option, Some, None, IsSomeAnd, false, slice_get, slice_index, slice_index_or, get_or, take, ◌≡◌, ◌⊎◌, ◌∙◌, inl, inr, sym, ap, subst}
+use Rattle.std.proofs.Common.{List, [], ◌∷◌, ℕ, Bool, Option, Some, None, IsSomeAnd, false, slice_get, slice_index, slice_index_or, get_or, take, ◌≡◌, ◌∙◌, inl, inr, sym, ap, subst}
+use Rattle.chase_laws.specs.declared.entry.Entry.{Entry}
 use Rattle.chase_laws.specs.declared.pattern.Slot.{Slot}
 use Rattle.chase_laws.specs.declared.pattern.Slot.TheVariants.{Entity, Any as AnyOf, Value, Folded, Fixed}
 use Rattle.chase_laws.specs.declared.pattern.Edge.{Edge}
 use Rattle.chase_laws.specs.Shape.{Shape}
 use Rattle.chase_laws.specs.Graph.{NumberedGraph, HasRow, HasType, AreAlike}
-use Rattle.chase_laws.specs.SameRows.{IsUnfolded, AreUnfolded, HasRowsOf}
-use Rattle.chase_laws.specs.Valuation.{FitsSlot, IsValuation, AgreeAt, IsMatch}
-use Rattle.chase_laws.specs.Joined.{joined_by}
-use Rattle.chase_laws.specs.Chase.{AreSame}
+use Rattle.chase_laws.specs.SameRows.{HasRowsOf}
+use Rattle.chase_laws.specs.Valuation.{FitsSlot, Designates, IsValuation, AgreeAt, IsMatch, Matches}
+use Rattle.chase_laws.specs.Joined.{joined, joined_by}
+use Rattle.chase_laws.specs.Chase.{IsDerivation, AreSame, IsClosed, IsAble}
 use Rattle.chase_laws.specs.Candidate.{Shares, IsCandidate}
 
 module _ (K : List Shape) (G F : NumberedGraph) (h : HasRowsOf K G F) where
@@ -73,12 +74,31 @@ module _ (K : List Shape) (G F : NumberedGraph) (h : HasRowsOf K G F) where
     share s (AnyOf t) p a b at k = tt
     share s (Fixed c) p a b at k = tt
 
+  designates_too : (Q : Shape) (n : ℕ) → Designates G Q n → Designates F Q n
+  designates_too Q n d = (d.0, d.1, fits d.0 n d.2)
+
+  matches_too : (same : ℕ → ℕ → Bool) (a b : ℕ) → Matches G K same a b → Matches F K same a b
+  matches_too same a b m = record {
+    key = m.key;
+    pattern = m.pattern;
+    found = m.found;
+    left = m.left;
+    right = m.right;
+    witness = match_too m.key m.pattern m.found same a b m.left m.right m.witness;
+  }
+
+  pub derivation_too : (H : List Entry) → IsDerivation G K H → IsDerivation F K H
+  derivation_too H d = λ i e at. let s = d i e at in record { pattern = s.pattern; key = s.key; witness = match_too e.key s.pattern s.key (joined_by (take i H)) e.a e.b e.left e.right s.witness }
+
+  pub able_too : (a b : ℕ) → IsAble G K a b → IsAble F K a b
+  able_too a b h = (h.0, (h.1.0, matches_too (joined h.1.0) a b h.1.1))
+
+  -- what is closed over the larger graph is closed over the smaller one
+  pub closed_back : (H : List Entry) → IsClosed F K H → IsClosed G K H
+  closed_back H closed = λ a b m. closed a b (matches_too (joined_by H) a b m)
+
   pub same_too : (a b : ℕ) → AreSame G K a b → AreSame F K a b
-  same_too a b k = (
-    k.0,
-    (λ i e at. let s = k.1 i e at in record { pattern = s.pattern; key = s.key; witness = match_too e.key s.pattern s.key (joined_by (take i k.0)) e.a e.b e.left e.right s.witness }),
-    k.2,
-  )
+  same_too a b k = (k.0, derivation_too k.0 k.1, k.2)
 
   pub candidate_too : (a b : ℕ) → IsCandidate G K a b → IsCandidate F K a b
   candidate_too a b k = record {
@@ -86,6 +106,9 @@ module _ (K : List Shape) (G F : NumberedGraph) (h : HasRowsOf K G F) where
     key = k.key;
     pattern = k.pattern;
     found = k.found;
-    designated = λ slot at. let d = k.designated slot at in (fits slot a d.0, fits slot b d.1);
-    share = λ i e l from slot at. let f : Edge = get_or k.pattern.edges i e in share k.key k.pattern k.found f.to slot f.pred a b at (k.share i e l from slot at);
+    under = record {
+      left = designates_too k.pattern a k.under.left;
+      right = designates_too k.pattern b k.under.right;
+      share = λ i e l from slot at. let f : Edge = get_or k.pattern.edges i e in share k.key k.pattern k.found f.to slot f.pred a b at (k.under.share i e l from slot at);
+    };
   }

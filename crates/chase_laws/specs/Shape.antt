@@ -1,5 +1,5 @@
 -- Key patterns as contracts see them: which are valid, and how far their slots are from the first.
-use Rattle.std.specs.Prelude.{List, [], ◌∷◌, ℕ, zero, suc, Bool, true, false, Option, Some, None, IsTrue, ◌==◌, ◌||◌, ◌&&◌, ◌<◌, ◌≤◌, not, nat_lt, nat_le, map, length, slice_get, slice_index_or, All, ◌≡◌}
+use Rattle.std.specs.Prelude.{List, [], ◌∷◌, ℕ, zero, suc, Bool, true, false, Option, Some, None, IsTrue, ◌==◌, ◌||◌, ◌&&◌, ◌<◌, ◌≤◌, not, nat_lt, nat_le, map, length, slice_get, slice_index_or, All, Contains, ◌≡◌, ◌⊎◌}
 use Rattle.std.specs.List.{list_any, list_all, range_with_len}
 use Rattle.chase_laws.specs.declared.pattern.Slot.{Slot}
 use Rattle.chase_laws.specs.declared.pattern.Slot.TheVariants.{Entity, Any, Value, Folded, Fixed}
@@ -27,6 +27,19 @@ marks Q (suc n) = let before = marks Q n in map (λ s. slice_index_or before s f
 -- whether slot s is at most n edges away from slot 0
 abbrev pub reached : Shape → ℕ → ℕ → Bool
 reached Q n s = slice_index_or (marks Q n) s false
+
+-- an edge has slots r and s as its ends, in either direction
+abbrev pub AreBeside : Shape → ℕ → ℕ → Type 0
+AreBeside Q r s = (e : Edge) × Contains Q.edges e × (((e.from ≡ r) × (e.to ≡ s)) ⊎ ((e.from ≡ s) × (e.to ≡ r)))
+
+-- a walk of n edges, each passed in either direction from slot to slot, leads from slot 0 to slot s
+abbrev pub Walk : Shape → ℕ → ℕ → Type 0
+Walk Q zero s = (s < length Q.slots) × (s ≡ 0)
+Walk Q (suc n) s = (s < length Q.slots) × ((r : ℕ) × Walk Q n r × AreBeside Q r s)
+
+-- a walk leads from slot 0 to each slot
+abbrev pub IsConnected : Shape → Type 0
+IsConnected Q = (s : ℕ) → s < length Q.slots → (n : ℕ) × Walk Q n s
 
 -- each slot is at most r edges away
 abbrev pub AllWithin : Shape → ℕ → Type 0

@@ -14,6 +14,15 @@ FitsSlot G Value n = IsLiteral G n
 FitsSlot G Folded n = IsLiteral G n
 FitsSlot G (Fixed c) n = n ≡ c
 
+-- a number may stand at slot s of the pattern
+abbrev pub FitsAt : NumberedGraph → Shape → ℕ → ℕ → Type 0
+FitsAt G Q s n = (slot : Slot) × (slice_get Q.slots s ≡ Some slot) × FitsSlot G slot n
+
+-- The pattern designates a type of n: n may stand at slot 0, the variable x, which is an entity variable in every valid
+-- pattern ("Keys for Graphs", section 2).
+abbrev pub Designates : NumberedGraph → Shape → ℕ → Type 0
+Designates G Q n = FitsAt G Q 0 n
+
 -- A valuation ("Keys for Graphs", section 2): one number for each slot, each fit for its slot, and each edge's image a
 -- row. That all numbers differ, those of value variables and constants included, is this project's own choice.
 pub record IsValuation (G : NumberedGraph) (Q : Shape) (v : List ℕ) : Type 0 where

@@ -1,22 +1,27 @@
 //! The laws of the chase. Each is a function with an empty body, whose contract holds of all lists and speaks of the
 //! definitions alone: of entity variables, wildcards, constants, folded values and recursion alike.
 
-ghost use Rattle.std.specs.Prelude.{List, [], ◌∷◌, ◌++◌, ℕ, IsTrue, ◌||◌, ◌&&◌, ◌≡◌, ◌↔◌, ◌<◌, All, Some, length, slice_get, slice_index};
+ghost use Rattle.std.specs.Prelude.{List, [], ◌∷◌, ◌++◌, ℕ, Bool, IsTrue, ◌||◌, ◌&&◌, ◌≡◌, ◌≢◌, ◌↔◌, ◌<◌, ◌≤◌, All, Contains, Some, length, slice_get, slice_index};
+ghost use Rattle.std.specs.Cmp.{IsEquivalence};
 ghost use Rattle.chase_laws.specs.declared.entry.Entry.{Entry};
 ghost use Rattle.chase_laws.specs.declared.pattern.Slot.TheVariants.{Entity};
-ghost use Rattle.chase_laws.specs.Shape.{Shape, IsPattern, PatternFacts};
-ghost use Rattle.chase_laws.specs.Graph.{NumberedGraph};
+ghost use Rattle.chase_laws.specs.Shape.{Shape, IsPattern, PatternFacts, Walk, IsConnected, AllWithin, reached};
+ghost use Rattle.chase_laws.specs.Graph.{NumberedGraph, IsEntity};
 ghost use Rattle.chase_laws.specs.SameRows.{HasRowsOf};
-ghost use Rattle.chase_laws.specs.Valuation.{IsValuation, Matches};
+ghost use Rattle.chase_laws.specs.Valuation.{IsValuation, Designates, Matches};
 ghost use Rattle.chase_laws.specs.Joined.{joined, joined_by, Joined};
 ghost use Rattle.chase_laws.specs.Chase.{IsStep, IsDerivation, IsLean, AreSame, IsClosed, IsAble};
 ghost use Rattle.chase_laws.specs.Candidate.{IsCandidate};
 ghost use Rattle.chase_laws.specs.Pairing.{ArePaired};
 ghost use Rattle.chase_laws.specs.Near.{IsNear};
+ghost use Rattle.chase_laws.specs.View.{label_in, same_by};
 
-/// What pairs join is an equivalence, and more pairs join more. The pair at the end counts as the one at the front
-/// does.
+/// What pairs join is the least equivalence that has them, and more pairs join more. The pair at the end counts as the one
+/// at the front does.
 pub fn law_joined()
+    ensures has { (ps : List (ℕ × ℕ)) (a b : ℕ) → Contains ps (a, b) → IsTrue (joined ps a b) }
+    ensures least { (ps : List (ℕ × ℕ)) (same : ℕ → ℕ → Bool) → IsEquivalence same →
+        ((a b : ℕ) → Contains ps (a, b) → IsTrue (same a b)) → (a b : ℕ) → IsTrue (joined ps a b) → IsTrue (same a b) }
     ensures reflexive { (ps : List (ℕ × ℕ)) (a : ℕ) → IsTrue (joined ps a a) }
     ensures symmetric { (ps : List (ℕ × ℕ)) (a b : ℕ) → IsTrue (joined ps a b) → IsTrue (joined ps b a) }
     ensures transitive { (ps : List (ℕ × ℕ)) (a b c : ℕ) → IsTrue (joined ps a b) → IsTrue (joined ps b c) → IsTrue (joined ps a c) }
@@ -29,25 +34,6 @@ pub fn law_joined()
 pub fn law_step_grows()
     ensures { (G : NumberedGraph) (K : List Shape) (H J : List Entry) (e : Entry) → IsStep G K H e →
         ((a b : ℕ) → Joined H a b → Joined J a b) → IsStep G K J e }
-{}
-
-/// No entries are a lean derivation, and it stays one with one more step whose ends it does not join.
-pub fn law_derivation()
-    ensures empty { (G : NumberedGraph) (K : List Shape) → IsDerivation G K [] × IsLean [] }
-    ensures step { (G : NumberedGraph) (K : List Shape) (H : List Entry) (e : Entry) → IsDerivation G K H →
-        IsStep G K H e → IsDerivation G K (H ++ e ∷ []) }
-    ensures lean { (H : List Entry) (e : Entry) → IsLean H → ¬ (Joined H e.a e.b) → IsLean (H ++ e ∷ []) }
-{}
-
-/// A lean list of entries over names below `n` has fewer than `n` entries: each takes one class away.
-pub fn law_lean()
-    ensures { (H : List Entry) (n : ℕ) → 0 < n → IsLean H → All (λ e. (e.a < n) × (e.b < n)) H → length H < n }
-{}
-
-/// Entries are closed where they join each pair of a smaller and a greater name that some key identifies.
-pub fn law_closed()
-    ensures { (G : NumberedGraph) (K : List Shape) (H : List Entry) →
-        ((a b : ℕ) → a < b → Matches G K (joined_by H) a b → Joined H a b) → IsClosed G K H }
 {}
 
 /// Two closed derivations over the same graph and keys join the same names: the order of the steps is of no account.
@@ -67,10 +53,11 @@ pub fn law_able()
     ensures { (G : NumberedGraph) (K : List Shape) (a b : ℕ) → IsAble G K a b → IsCandidate G K a b }
 {}
 
-/// Every able pair is paired to every depth at slot 0 of some key.
+/// Every able pair is paired to every depth by the same key.
 pub fn law_paired()
     ensures { (G : NumberedGraph) (K : List Shape) (a b : ℕ) → IsAble G K a b →
-        (key : ℕ) × (Q : Shape) × (slice_get K key ≡ Some Q) × ((depth : ℕ) → ArePaired G Q depth 0 a b) }
+        (key : ℕ) × (Q : Shape) × (slice_get K key ≡ Some Q) × Designates G Q a × Designates G Q b
+        × ((depth : ℕ) → ArePaired G Q depth 0 a b) }
 {}
 
 /// A key looks at nothing that is not near. The image of each entity variable is near to the entity at slot 0, and two
@@ -84,15 +71,36 @@ pub fn law_local()
         Matches G K (joined H) a b ↔ Matches G K (joined J) a b }
 {}
 
-/// The rows of a graph are a set: two graphs that have each other's rows, and are else equal, have the same candidate
-/// pairs, and the same names are the same in both. What names are alike to is of no account to keys with no folded
-/// value variable.
+/// More rows, more derivations. Let F have all rows of G, and be else equal: then a derivation over G is one over F (a lean
+/// one stays lean, since that speaks of no graph), and able and candidate pairs stay so. Where G has all rows of F too,
+/// the same entries are closed, the same names are the same, and the candidates are the same: the rows of a graph are a
+/// set. What names are alike to is of no account to keys with no folded value variable.
 pub fn law_rows()
+    ensures derivation { (G F : NumberedGraph) (K : List Shape) → HasRowsOf K G F → (H : List Entry) → IsDerivation G K H → IsDerivation F K H }
+    ensures able { (G F : NumberedGraph) (K : List Shape) → HasRowsOf K G F → (a b : ℕ) → IsAble G K a b → IsAble F K a b }
+    ensures candidate { (G F : NumberedGraph) (K : List Shape) → HasRowsOf K G F → (a b : ℕ) → IsCandidate G K a b → IsCandidate F K a b }
+    ensures closed { (G F : NumberedGraph) (K : List Shape) → HasRowsOf K G F → HasRowsOf K F G → (H : List Entry) → IsClosed G K H ↔ IsClosed F K H }
     ensures same { (G F : NumberedGraph) (K : List Shape) → HasRowsOf K G F → HasRowsOf K F G → (a b : ℕ) → AreSame G K a b ↔ AreSame F K a b }
     ensures candidates { (G F : NumberedGraph) (K : List Shape) → HasRowsOf K G F → HasRowsOf K F G → (a b : ℕ) → IsCandidate G K a b ↔ IsCandidate F K a b }
 {}
 
-/// What the test of a valid pattern says.
+/// Two different names that are the same are both entities, and so no literals.
+pub fn law_entities()
+    ensures { (G : NumberedGraph) (K : List Shape) → All IsPattern K → (a b : ℕ) → AreSame G K a b → a ≢ b → IsEntity G a × IsEntity G b }
+{}
+
+/// Where each label of a view is joined with its name, the view makes only joined names the same. So what is found under
+/// labels of whatever moments is a step of the present journal.
+pub fn law_view()
+    ensures { (H : List Entry) (view : List (ℕ × ℕ)) → ((n l : ℕ) → label_in view n ≡ Some l → Joined H n l) →
+        (m n : ℕ) → IsTrue (same_by view m n) → Joined H m n }
+{}
+
+/// What the test of a valid pattern says. What walks of at most n edges reach is what the test computes, and what any walk
+/// reaches is reached within as many edges as there are slots.
 pub fn law_pattern()
-    ensures { (Q : Shape) → IsPattern Q → PatternFacts Q }
+    ensures facts { (Q : Shape) → IsPattern Q → PatternFacts Q }
+    ensures reached { (Q : Shape) (n s : ℕ) → IsTrue (reached Q n s) ↔ ((m : ℕ) × (m ≤ n) × Walk Q m s) }
+    ensures enough { (Q : Shape) (n s : ℕ) → Walk Q n s → IsTrue (reached Q (length Q.slots) s) }
+    ensures connected { (Q : Shape) → IsConnected Q ↔ AllWithin Q (length Q.slots) }
 {}

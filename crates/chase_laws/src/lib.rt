@@ -20,5 +20,5 @@ mod places;
 
 pub use entry::Entry;
 pub use pair_state::PairState;
-pub use pattern::{Edge, Pattern, Slot};
+pub use pattern::{Edge, Pattern, Slot, all_valid};
 pub use places::Places;

@@ -1,5 +1,10 @@
-//! Key patterns.
+//! Key patterns, and what holds of each of them because it is valid.
 
+ghost use Rattle.std.specs.Prelude.{◌≡◌, ℕ, All, Some, slice_get};
+ghost use Rattle.chase_laws.specs.declared.pattern.Slot.TheVariants.{Entity};
+ghost use Rattle.chase_laws.specs.Shape.{Shape, IsPattern, PatternFacts};
+
+use crate::laws::law_pattern;
 use std::marker::Model;
 
 /// What a slot of a pattern stands for. The numbers are names.
@@ -44,4 +49,46 @@ impl Model for Pattern {
     ghost view = { λ p. record { slots = p.slots.items; edges = p.edges.items } };
 
     ghost invariant = { λ p. IsPattern (record { slots = p.slots.items; edges = p.edges.items }) };
+}
+
+impl Pattern {
+    /// The slots, of which slot 0 is the variable that the key identifies. What the type keeps is said fact by fact.
+    pub fn slots(&self) -> &[Slot]
+        ensures slots { result.now ≡ self.now.slots }
+        ensures valid { IsPattern self.now }
+        ensures facts { PatternFacts self.now }
+    {
+        law_pattern();
+        &self.slots
+    }
+
+    /// The edges. What the type keeps is said fact by fact.
+    pub fn edges(&self) -> &[Edge]
+        ensures edges { result.now ≡ self.now.edges }
+        ensures facts { PatternFacts self.now }
+    {
+        law_pattern();
+        &self.edges
+    }
+
+    /// The type that the key designates: that of slot 0.
+    pub fn designated_type(&self) -> u32
+        ensures { slice_get self.now.slots 0 ≡ Some (Entity result) }
+    {
+        match self.slots()[0] {
+            Slot::Entity(t) => t,
+            Slot::Any(_) | Slot::Value | Slot::Folded | Slot::Fixed(_) => unreachable!(),
+        }
+    }
+}
+
+/// Says for proofs that each of some patterns is valid. It does nothing.
+pub fn all_valid(patterns: &[Pattern])
+    ensures valid { All IsPattern patterns.now }
+    ensures facts { (key : ℕ) (Q : Shape) → slice_get patterns.now key ≡ Some Q → PatternFacts Q }
+{
+    law_pattern();
+    for pattern in patterns {
+        let _ = pattern.slots();
+    }
 }

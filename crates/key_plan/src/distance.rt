@@ -1,12 +1,11 @@
 //! How far each slot is from slot 0.
 
-ghost use Rattle.std.specs.Prelude.{◌≡◌, ◌||◌, ◌≤◌, ◌<◌, ℕ, false, IfOk, length, map, slice_index_or};
+ghost use Rattle.std.specs.Prelude.{◌≡◌, ◌||◌, ◌≤◌, ◌<◌, ℕ, false, IfOk, length, map, replicate, slice_index_or};
 ghost use Rattle.std.specs.List.{list_any, range_with_len};
 ghost use Rattle.chase_laws.specs.Shape.{marks, touches, IsRadius};
 ghost use Rattle.key_plan.specs.Distance.{AreDistances};
 ghost use Rattle.key_plan.specs.Making.{AreRaised, IsGreatest};
 
-use crate::fields::{edges, pattern_facts, slots, zeros};
 use chase_laws::{Edge, Pattern};
 use gk_base::NoMemory;
 use std::alloc::{AllocError, Global};
@@ -46,7 +45,7 @@ fn is_within(edges: &[Edge], marks: &[bool], slot: usize) -> bool
 fn first_marks(alloc: Global, pattern: &Pattern) -> Result<Vec<bool>, AllocError>
     ensures { IfOk result (λ v. v.items ≡ marks pattern.now 0) }
 {
-    let count = slots(pattern).len();
+    let count = pattern.slots().len();
     let mut first = Vec::with_capacity(alloc, count)?;
     for slot in 0..count {
         first.push(slot == 0)?;
@@ -78,17 +77,23 @@ fn set_unmarked(distances: &mut [u8], marks: &[bool], distance: u8)
     }
 }
 
+/// As many zeros.
+pub fn zeros(alloc: Global, len: usize) -> Result<Vec<u8>, AllocError>
+    ensures { IfOk result (λ v. v.items ≡ replicate len 0) }
+{
+    vec![in alloc; 0u8; len]
+}
+
 /// The undirected distance of each slot from slot 0.
 pub fn distances(alloc: Global, pattern: &Pattern) -> Result<Vec<u8>, NoMemory>
     ensures { IfOk result (λ v. AreDistances pattern.now v.items) }
 {
-    pattern_facts(pattern);
-    let count = slots(pattern).len();
+    let count = pattern.slots().len();
     let mut marks = first_marks(alloc, pattern)?;
     let mut distances = zeros(alloc, count)?;
     for level in 0..count as u8 {
         set_unmarked(&mut distances, &marks, level + 1);
-        let wider = wider_marks(alloc, edges(pattern), &marks)?;
+        let wider = wider_marks(alloc, pattern.edges(), &marks)?;
         marks = wider;
     }
     Ok(distances)

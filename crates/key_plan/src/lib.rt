@@ -2,7 +2,6 @@
 //! their distance from slot 0, so that each later slot is joined by an edge to an earlier one, and for each slot the
 //! edges that lead back. Its radius tells how many rows away from an entity the key can look.
 //!
-//! - `fields`: a pattern's fields, and what holds of them
 //! - `distance`: how far each slot is from slot 0, and the greatest of these distances
 //! - `order`: the slots by distance, and the place of each
 //! - `renumber`: a pattern's slots and edges under other numbers, and the edges that a place adds
@@ -10,11 +9,11 @@
 #![tactic(auto)]
 
 mod distance;
-mod fields;
 mod order;
 mod plan;
 mod renumber;
 
+pub use distance::distances;
 pub use plan::Plan;
 
 #[cfg(test)]

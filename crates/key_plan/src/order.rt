@@ -5,7 +5,7 @@ ghost use Rattle.key_plan.specs.Distance.{AreDistances, IsOrder};
 ghost use Rattle.key_plan.specs.Making.{IsUpTo, IsListing};
 ghost use Rattle.key_plan.specs.Route.{AreInverse};
 
-use crate::fields::{pattern_facts, zeros};
+use crate::distance::zeros;
 use chase_laws::Pattern;
 use std::alloc::{AllocError, Global};
 
@@ -29,7 +29,7 @@ pub fn slot_order(alloc: Global, pattern: &Pattern, distances: &[u8]) -> Result<
     ensures order { IfOk result (λ v. IsOrder pattern.now v.items) }
     ensures listing { IfOk result (λ v. IsListing v.items) }
 {
-    pattern_facts(pattern);
+    let _ = pattern.slots();
     let mut order = Vec::with_capacity(alloc, distances.len())?;
     for distance in 0..distances.len() as u8 + 1 {
         push_all_at(&mut order, distances, distance)?;

@@ -4,7 +4,6 @@ ghost use Rattle.std.specs.Prelude.{◌≡◌, ◌<◌, ◌≤◌, ℕ, IfOk, So
 ghost use Rattle.key_plan.specs.Route.{IsPlanOf, IsBlock};
 
 use crate::distance::{distances, greatest};
-use crate::fields::{edges, pattern_facts, slots};
 use crate::order::{places, slot_order};
 use crate::renumber::{blocks, moved_edges, moved_slots};
 use chase_laws::{Edge, Pattern, Slot};
@@ -42,12 +41,11 @@ impl Plan {
     pub fn new(alloc: Global, pattern: &Pattern) -> Result<Plan, NoMemory>
         ensures { IfOk result (λ plan. IsPlanOf pattern.now plan) }
     {
-        pattern_facts(pattern);
         let distances = distances(alloc, pattern)?;
         let order = slot_order(alloc, pattern, &distances)?;
         let place = places(alloc, &order)?;
-        let slots = moved_slots(alloc, slots(pattern), &order)?;
-        let edges = moved_edges(alloc, edges(pattern), &place)?;
+        let slots = moved_slots(alloc, pattern.slots(), &order)?;
+        let edges = moved_edges(alloc, pattern.edges(), &place)?;
         let blocks = blocks(alloc, &edges, slots.len())?;
         let radius = greatest(&distances);
         Ok(Plan {

@@ -16,4 +16,6 @@ pub use preparing::{Prepared, prepare};
 pub use whole::classes;
 
 #[cfg(test)]
+mod chase_tests;
+#[cfg(test)]
 mod tests;

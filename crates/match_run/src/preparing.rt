@@ -1,7 +1,7 @@
 //! What a chase needs before it runs.
 
 ghost use Rattle.std.specs.Prelude.{◌≡◌, ◌<◌, ◌^◌, ◌↔◌, ℕ, Contains, length, IfOk, IfErr, OnOk};
-ghost use Rattle.chase_laws.specs.Candidate.{IsCandidate};
+ghost use Rattle.chase_laws.specs.Candidate.{IsCandidate, IsCandidateCount};
 ghost use Rattle.pair_seed.specs.Pairs.{HasMoreCandidates};
 ghost use Rattle.pair_seed.specs.Stop.{IsRightStop};
 
@@ -33,7 +33,7 @@ pub fn prepare(
     ensures graph { IfOk result (λ p. p.setup.task.graph ≡ graph) }
     ensures patterns { IfOk result (λ p. p.setup.task.patterns ≡ patterns.items) }
     ensures pairs { IfOk result (λ p. (a b : ℕ) → Contains p.setup.task.pairs (a, b) ↔ IsCandidate graph patterns.items a b) }
-    ensures seeded { IfOk result (λ p. p.seeded ≡ length p.setup.task.pairs) }
+    ensures seeded { IfOk result (λ p. IsCandidateCount graph patterns.items p.seeded) }
     ensures no_more { OnOk result (¬ (HasMoreCandidates graph patterns.items limit)) }
     ensures stop { IfErr result (IsRightStop graph patterns.items limit) }
 {

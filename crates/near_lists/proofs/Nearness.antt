@@ -1,56 +1,44 @@
--- What is near, by the greatest radius.
-use Rattle.std.proofs.Common.{List, [], ℕ, zero, suc, Option, Some, None, length, All, Contains, ◌≡◌, ◌<◌, ◌≤◌, ◌^◌, ◌↔◌, inl, inr, ap, sym, ◌∙◌, subst, arith}
+-- What is near, and the owners.
+use Rattle.std.proofs.Common.{List, [], ◌∷◌, ℕ, length, get_or, All, Contains, ◌≡◌, ◌<◌, ◌^◌, ◌↔◌, inl, inr, ap, sym, ◌∙◌, subst, arith}
 use Rattle.std.specs.List.Sorted.{IsStrictlyIncreasing}
-use Rattle.std.proofs.lemmas.Bool.{cases_eq}
-use Rattle.std.proofs.lemmas.Option.{slice_get_within}
-use Rattle.std.proofs.lemmas.List.Elements.{All-from_get_or}
+use Rattle.std.proofs.lemmas.Bool.{cases_lt}
+use Rattle.std.proofs.lemmas.List.{get_or_past}
+use Rattle.std.proofs.lemmas.List.Elements.{Contains-get_or, All-contains, All-from_get_or}
 use Rattle.chase_laws.specs.Shape.{Shape}
-use Rattle.chase_laws.specs.Graph.{NumberedGraph, IsGraph}
-use Rattle.chase_laws.specs.Near.{AreAdjacent, Reaches, IsNear}
-use Rattle.near_lists.specs.Lists.{list_at}
+use Rattle.chase_laws.specs.Graph.{NumberedGraph, HasRow, IsGraph, IsEntity}
+use Rattle.chase_laws.specs.Near.{IsNear}
+use Rattle.chase_laws.proofs.NearLaws.{near_entity}
+use Rattle.list_pool.specs.Pool.{list_at}
 use Rattle.near_lists.specs.Turning.{owners_of}
-use Rattle.near_lists.specs.Walks.{LeadsTo, AreWithin}
-use Rattle.near_lists.specs.Radii.{IsRadiusAt, IsWidestAt}
 use Rattle.near_lists.specs.Neighbourhoods.{AreNeighbourhoods}
 use Rattle.near_lists.proofs.Owners.{owners_rise, Contains_all_owners}
-use Rattle.near_lists.proofs.Linking.{entity_named, listed, all_listed}
 
--- a walk along links is one along key rows
-walks : (G : NumberedGraph) (K : List Shape) (links : List (List ℕ)) → ((m n : ℕ) → Contains (list_at links m) n ↔ AreAdjacent G K m n) → (r m n : ℕ) → LeadsTo links r m n ↔ Reaches G K r m n
-walks G K links exact zero m n = ((λ e. e), (λ e. e))
-walks G K links exact (suc r) m n = (
-  (λ h. elim h [ inl k ↦ inl ((walks G K links exact r m n).0 k) | inr k ↦ inr (k.0, (walks G K links exact r m k.0).0 k.1, (exact k.0 n).0 k.2) ]),
-  (λ h. elim h [ inl k ↦ inl ((walks G K links exact r m n).1 k) | inr k ↦ inr (k.0, (walks G K links exact r m k.0).1 k.1, (exact k.0 n).1 k.2) ]),
-)
+-- the numbers of a row are names
+row_named : (G : NumberedGraph) (s p o : ℕ) → IsGraph G → HasRow G s p o → (s < length G.literal) × (p < length G.literal) × (o < length G.literal)
+row_named G s p o named h =
+    let row : All (λ n. n < length G.literal) (s ∷ p ∷ o ∷ []) = All-contains (λ (r : List ℕ). All (λ n. n < length G.literal) r) G.rows (s ∷ p ∷ o ∷ []) named h in
+    (row 0 0 (omega arith), row 1 0 (omega arith), row 2 0 (omega arith))
 
--- a longer walk reaches as much
-farther : (G : NumberedGraph) (K : List Shape) (r s m n : ℕ) → r ≤ s → Reaches G K r m n → Reaches G K s m n
-farther G K r zero m n h walk = let e : r ≡ 0 = omega arith in subst (λ q. Reaches G K q m n) e walk
-farther G K r (suc s) m n h walk = elim (cases_eq r (suc s)) [
-  | inl e ↦ subst (λ q. Reaches G K q m n) e walk
-  | inr d ↦ inl (farther G K r s m n (omega arith) walk)
+-- an entity is a name
+entity_named : (G : NumberedGraph) (n : ℕ) → IsGraph G → IsEntity G n → n < length G.literal
+entity_named G n named e =
+    let r = row_named G e.1.0 e.1.1 e.1.2 named e.1.3 in
+    elim e.1.4 [ inl same ↦ subst (λ m. m < length G.literal) (sym same) r.0 | inr same ↦ subst (λ m. m < length G.literal) (sym same) r.2 ]
+
+-- a place behind the lists has an empty list
+pub listed : (lists : List (List ℕ)) (m n : ℕ) → Contains (list_at lists m) n → m < length lists
+listed lists m n h = elim (cases_lt m (length lists)) [
+  | inl lt ↦ lt
+  | inr ge ↦ absurd (let j : h.0 < length (list_at lists m) = h.1 in let none : length (list_at lists m) ≡ 0 = ap (λ (xs : List ℕ). length xs) (get_or_past lists m [] ge) in omega arith)
 ]
 
--- the entities within the greatest radius are those that are near
-pub near_exact : (G : NumberedGraph) (K : List Shape) (links : List (List ℕ)) (e n : ℕ) (xs : List ℕ) → ((m n : ℕ) → Contains (list_at links m) n ↔ AreAdjacent G K m n) →
-    (radius : Option ℕ) → IsWidestAt G K (length K) e radius → AreWithin G links radius e xs → Contains xs n ↔ IsNear G K e n
-near_exact G K links e n xs exact None widest within = (
-  (λ c. absurd (let j = c.1 in let none : length xs ≡ 0 = ap (λ (ys : List ℕ). length ys) within in omega arith)),
-  (λ h. absurd (widest h.radius (record { key = h.key; pattern = h.pattern; first = slice_get_within K h.key h.pattern h.found; found = h.found; designates = h.designates; is_radius = h.is_radius }))),
-)
-near_exact G K links e n xs exact (Some r) widest within = (
-  (λ c.
-      let w = (within n).0 c in
-      let k = widest.0 in
-      record { key = k.key; pattern = k.pattern; found = k.found; designates = k.designates; radius = r; is_radius = k.is_radius; reaches = (walks G K links exact r e n).0 w.0; entity = w.1 }),
-  (λ h.
-      let at : IsRadiusAt G K (length K) e h.radius = record { key = h.key; pattern = h.pattern; first = slice_get_within K h.key h.pattern h.found; found = h.found; designates = h.designates; is_radius = h.is_radius } in
-      (within n).1 ((walks G K links exact r e n).1 (farther G K h.radius r e n (widest.1 h.radius at) h.reaches), h.entity)),
-)
+-- what stands in the lists is named where each list's numbers are
+all_listed : (lists : List (List ℕ)) (P : ℕ → Type 0) → ((m n : ℕ) → Contains (list_at lists m) n → P n) → All (λ xs. All P xs) lists
+all_listed lists P each = All-from_get_or (λ (xs : List ℕ). All P xs) lists [] (λ m h. All-from_get_or P (list_at lists m) 0 (λ k j. each m (get_or (list_at lists m) k 0) (Contains-get_or (list_at lists m) k 0 j)))
 
 -- what is near is a name
-pub near_named : (G : NumberedGraph) (K : List Shape) (near : List (List ℕ)) → IsGraph G → ((e n : ℕ) → e < length near → Contains (list_at near e) n ↔ IsNear G K e n) → All (λ xs. All (λ n. n < length G.literal) xs) near
-near_named G K near named exact = all_listed near (λ n. n < length G.literal) (λ e n c. entity_named G n named ((exact e n (listed near e n c)).0 c).entity)
+pub near_named : (G : NumberedGraph) (K : List Shape) (near : List (List ℕ)) → IsGraph G → ((e : ℕ) → e < length near → (n : ℕ) → Contains (list_at near e) n ↔ IsNear G K e n) → All (λ xs. All (λ n. n < length G.literal) xs) near
+near_named G K near named exact = all_listed near (λ n. n < length G.literal) (λ e n c. entity_named G n named (near_entity G K e n ((exact e (listed near e n c) n).0 c)))
 
 -- near lists and their owners
 pub neighbourhoods : (near owners : List (List ℕ)) (names : ℕ) → names < 2 ^ 32 → length near ≡ names → length owners ≡ names → All IsStrictlyIncreasing near → All (λ xs. All (λ n. n < names) xs) near →

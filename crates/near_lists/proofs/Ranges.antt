@@ -4,7 +4,8 @@ use Rattle.std.specs.Prelude.{slice_range}
 use Rattle.std.specs.List.{concat}
 use Rattle.std.proofs.lemmas.List.{length-take, length-drop, length-append, take-append-le, drop-append-le, take_all, drop_at, drop_all, drop-drop, take-append-drop, get_or-drop, get_or_append_left, get_or_push, length_push, ext_get_or}
 use Rattle.std.proofs.lemmas.Bool.{cases_lt, cases_eq}
-use Rattle.near_lists.specs.Lists.{list_at, ranges, cut, AreStarts}
+use Rattle.list_pool.specs.Pool.{list_at}
+use Rattle.near_lists.specs.Lists.{ranges, cut, AreStarts}
 
 -- places that rise stay in order
 pub rising_far : (starts : List ℕ) → ((k : ℕ) → k + 1 < length starts → get_or starts k 0 ≤ get_or starts (k + 1) 0) → (i j : ℕ) → i ≤ j → j < length starts → get_or starts i 0 ≤ get_or starts j 0
@@ -116,6 +117,11 @@ starts_none = record { some = omega arith; first = refl; rising = λ k h. absurd
 pub cut_none : cut (0 ∷ []) [] ≡ []
 unfolding ranges
 cut_none = refl
+
+-- the first start
+pub first_start : (starts : List ℕ) → 0 < length starts → get_or starts 0 0 ≡ 0 → take 1 starts ≡ 0 ∷ []
+first_start [] h e = absurd (omega arith)
+first_start (a ∷ starts) h e = ap (λ b. b ∷ []) e
 
 -- the lists together are the whole
 concat_from : (a : ℕ) (rest items : List ℕ) → ((k : ℕ) → k < length rest → get_or (a ∷ rest) k 0 ≤ get_or rest k 0) → get_or (a ∷ rest) (length rest) 0 ≡ length items → concat (ranges (a ∷ rest) rest items) ≡ drop a items

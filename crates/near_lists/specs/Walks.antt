@@ -1,36 +1,26 @@
--- Walks from a name along key rows ("Keys for Graphs", section 4.1: d-neighbours), as they are made step by step.
-use Rattle.std.specs.Prelude.{List, [], ◌++◌, ℕ, zero, suc, Bool, true, false, Option, Some, None, Contains, length, slice_index_or, ◌≡◌, ◌<◌, ◌⊎◌, ◌↔◌}
-use Rattle.chase_laws.specs.Graph.{NumberedGraph, IsEntity}
-use Rattle.near_lists.specs.Lists.{list_at}
+-- Walks along the legs of a pattern. All of this is this project's own.
+use Rattle.std.specs.Prelude.{List, ℕ, zero, suc, Bool, true, false, Some, Contains, slice_get, ◌≡◌, ◌⊎◌}
+use Rattle.chase_laws.specs.Graph.{NumberedGraph, HasRow}
+use Rattle.chase_laws.specs.Valuation.{FitsSlot}
+use Rattle.near_lists.specs.declared.legs.Leg.{Leg}
+use Rattle.list_pool.specs.Pool.{list_at}
 
--- a mark is set
-abbrev pub IsSet : List Bool → ℕ → Type 0
-IsSet marks n = slice_index_or marks n false ≡ true
+-- the graph has a row with the predicate from m to n, or, backward, from n to m
+abbrev pub HasRowBy : NumberedGraph → Bool → ℕ → ℕ → ℕ → Type 0
+HasRowBy G true m p n = HasRow G m p n
+HasRowBy G false m p n = HasRow G n p m
 
--- each of so many names has a list of links, which are such names too
-pub record AreLinks (links : List (List ℕ)) (names : ℕ) : Type 0 where
-  pub one_each : length links ≡ names
-  pub named : (m n : ℕ) → Contains (list_at links m) n → n < names
+-- a leg leads from m to n, which fits the slot there
+abbrev pub Leads : NumberedGraph → Leg → ℕ → ℕ → Type 0
+Leads G leg m n = FitsSlot G leg.slot n × HasRowBy G leg.forward m leg.pred n
 
--- a walk of at most r links leads from m to n
-abbrev pub LeadsTo : List (List ℕ) → ℕ → ℕ → ℕ → Type 0
-LeadsTo links zero m n = m ≡ n
-LeadsTo links (suc r) m n = LeadsTo links r m n ⊎ ((o : ℕ) × LeadsTo links r m o × Contains (list_at links o) n)
+-- the first k legs, taken one after another, bring n to slot s; before the first, e alone stands at slot 0
+abbrev pub Brings : NumberedGraph → List Leg → ℕ → ℕ → ℕ → ℕ → Type 0
+Brings G legs e zero s n = (s ≡ 0) × (n ≡ e)
+Brings G legs e (suc k) s n =
+    Brings G legs e k s n ⊎ ((leg : Leg) × (slice_get legs k ≡ Some leg) × (leg.far ≡ s) × ((m : ℕ) × Brings G legs e k leg.near m × Leads G leg m n))
 
--- the marks are those of the names in a list
-pub record AreMarksOf (marks : List Bool) (found : List ℕ) : Type 0 where
-  pub same : (n : ℕ) → n < length marks → IsSet marks n ↔ Contains found n
-  pub named : (n : ℕ) → Contains found n → n < length marks
-
--- no mark is set
-abbrev pub NoneSet : List Bool → Type 0
-NoneSet marks = (n : ℕ) → slice_index_or marks n false ≡ false
-
--- a list that goes on
-abbrev pub GoesOn : List ℕ → List ℕ → Type 0
-GoesOn old new = (more : List ℕ) × (new ≡ old ++ more)
-
--- the entities that a walk within a radius reaches from e; without a radius there are none
-abbrev pub AreWithin : NumberedGraph → List (List ℕ) → Option ℕ → ℕ → List ℕ → Type 0
-AreWithin G links None e xs = xs ≡ []
-AreWithin G links (Some r) e xs = (n : ℕ) → Contains xs n ↔ (LeadsTo links r e n × IsEntity G n)
+-- n stands at slot s: it is e at slot 0, or stands in the list of a leg that leads there
+abbrev pub IsFound : List Leg → List (List ℕ) → ℕ → ℕ → ℕ → Type 0
+IsFound legs lists e s n =
+    ((s ≡ 0) × (n ≡ e)) ⊎ ((j : ℕ) × (leg : Leg) × (slice_get legs j ≡ Some leg) × (leg.far ≡ s) × Contains (list_at lists j) n)

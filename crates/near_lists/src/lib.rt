@@ -1,30 +1,32 @@
-//! Which entities a key can look at from an entity. For each entity that some key identifies, `Near` holds the
-//! entities within that key's radius, found by a breadth-first walk over the rows whose predicate stands in a key; and
-//! for each name it holds the entities whose list has it, so that a change at a name tells whose search has to be made
-//! again. All lists of one kind lie in one array.
+//! Which entities a key can look at from an entity. For each entity of a type that some key designates, `Near` holds the
+//! entities that can stand at an entity variable of such a key, as far as one walk along the edges of its pattern tells;
+//! and for each name it holds the entities whose list has it, so that a change at a name tells whose search has to be
+//! made again. All lists of one kind lie in one array.
 //!
 //! - `near`: near lists and owners
 //! - `rows`: many lists in one array
 //! - `filling`: many lists of known lengths, filled in any order
 //! - `turn`: for each number the lists that have it
-//! - `parts`: the parts of a pattern
-//! - `links`: the names that key rows join with a name
-//! - `radii`: how far the keys look from each name
-//! - `walk`: what a walk reaches
+//! - `pairs`: for each number the pairs that have it
+//! - `fits`: what fits a slot
+//! - `legs`: the legs of walks along a pattern
+//! - `walk`: walks along the legs
 //! - `entities`: the entities that walks reach
 #![tactic(auto)]
 
 mod entities;
 mod filling;
-mod links;
+mod fits;
+mod legs;
 mod near;
-mod parts;
-mod radii;
+mod pairs;
 mod rows;
 mod turn;
 mod walk;
 
 pub use near::Near;
+pub use pairs::pairs_by_end;
+pub use rows::Rows;
 
 #[cfg(test)]
 mod tests;

@@ -3,24 +3,21 @@
 ghost use Rattle.std.specs.Prelude.{◌≡◌, ◌<◌, ◌↔◌, ℕ, All, Contains, IfOk, length};
 ghost use Rattle.std.specs.List.Sorted.{IsStrictlyIncreasing};
 ghost use Rattle.chase_laws.specs.Near.{IsNear};
-ghost use Rattle.near_lists.specs.Lists.{list_at};
-ghost use Rattle.near_lists.specs.Radii.{HaveRadii};
+ghost use Rattle.list_pool.specs.Pool.{list_at};
 
 use crate::entities::near_rows;
-use crate::links::key_links;
-use crate::radii::widest_radii;
 use crate::rows::Rows;
 use crate::turn::turned;
 use chase_laws::Pattern;
 use gk_base::NoMemory;
-use key_plan::Plan;
 use std::alloc::Global;
 use std::marker::Model;
 use typed_graph::Graph;
 
-/// For each name the entities near to it, and the names that it is near to. An entity is near to e where some key
-/// designates a type of e and a walk of at most as many rows as that key's radius leads there from e. The walk passes
-/// rows in either direction, through literals too, but only rows whose predicate stands in some key.
+/// For each name the entities near to it, and the names that it is near to. An entity n is near to e where some key can
+/// look at n from e: e is fit for slot 0 of the key's pattern, and a walk along edges of the pattern, each leading one
+/// further away from slot 0, ends with n at an entity variable. The graph has the row of each edge, in its direction, and
+/// each name on the way is fit for its slot.
 #[derive(Drop)]
 pub struct Near {
     near: Rows,
@@ -38,23 +35,14 @@ impl Model for Near {
 }
 
 impl Near {
-    /// Finds what is near to each name of the graph. The plan at each place has to be that of the pattern there, of
-    /// which only the radius is asked. Memory goes with the key rows and with what stands in the lists. Fails only for
-    /// want of memory.
-    pub fn build(
-        alloc: Global,
-        graph: &Graph,
-        patterns: &[Pattern],
-        plans: &[Plan],
-    ) -> Result<Near, NoMemory>
-        requires radii { HaveRadii patterns.now plans.now }
+    /// Finds what is near to each name of the graph. Time goes with the rows that the walks pass, and memory with the
+    /// lists and with the walks from one name. Fails only for want of memory.
+    pub fn build(alloc: Global, graph: &Graph, patterns: &[Pattern]) -> Result<Near, NoMemory>
         ensures count { IfOk result (λ n. length n.near ≡ length graph.now.literal) }
         ensures near { IfOk result (λ n. (e m : ℕ) → e < length graph.now.literal →
             Contains (list_at n.near e) m ↔ IsNear graph.now patterns.now e m) }
     {
-        let links = key_links(alloc, graph, patterns)?;
-        let radii = widest_radii(alloc, graph, patterns, plans)?;
-        let near = near_rows(alloc, graph, &links, &radii)?;
+        let near = near_rows(alloc, graph, patterns)?;
         let owners = turned(alloc, &near, graph.names())?;
         Ok(Near { near, owners })
     }
@@ -67,7 +55,7 @@ impl Near {
         ensures ascending { IsStrictlyIncreasing result.now }
         ensures named { All (λ m. m < length self.now.near) result.now }
     {
-        self.near.of(e)
+        self.near.of(e as usize)
     }
 
     /// The names whose near list has `n`, ascending without repeats.
@@ -78,7 +66,7 @@ impl Near {
         ensures exact { (e : ℕ) →
             Contains result.now e ↔ ((e < length self.now.near) × Contains (list_at self.now.near e) n) }
     {
-        self.owners.of(n)
+        self.owners.of(n as usize)
     }
 
     /// How many names there are. The names are the numbers below.

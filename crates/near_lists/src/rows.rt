@@ -2,7 +2,8 @@
 
 ghost use Rattle.std.specs.Prelude.{[], ◌∷◌, ◌++◌, ◌≡◌, ◌<◌, ◌≤◌, IfOk, OnErr, OnOk, length, slice_range};
 ghost use Rattle.std.specs.List.{concat};
-ghost use Rattle.near_lists.specs.Lists.{list_at, cut, AreStarts};
+ghost use Rattle.list_pool.specs.Pool.{list_at};
+ghost use Rattle.near_lists.specs.Lists.{cut, AreStarts};
 
 use std::alloc::{AllocError, Global};
 use std::marker::Model;
@@ -47,6 +48,14 @@ impl Rows {
         })
     }
 
+    /// Takes all lists out. The memory is kept.
+    pub fn clear(&mut self)
+        ensures { self.new ≡ [] }
+    {
+        self.starts.truncate(1);
+        self.items.clear();
+    }
+
     /// The lists that these parts hold.
     pub fn from_parts(starts: Vec<usize>, items: Vec<u32>) -> Rows
         requires { AreStarts starts.items items.items }
@@ -63,12 +72,12 @@ impl Rows {
     }
 
     /// The list at a place.
-    pub fn of(&self, list: u32) -> &[u32]
+    pub fn of(&self, list: usize) -> &[u32]
         requires { list < length self.now }
         ensures { result.now ≡ list_at self.now list }
     {
-        let start = self.starts[list as usize];
-        let end = self.starts[list as usize + 1];
+        let start = self.starts[list];
+        let end = self.starts[list + 1];
         part(&self.items, start, end)
     }
 

@@ -1,10 +1,6 @@
-ghost use Rattle.std.specs.Prelude.{IfOk};
-ghost use Rattle.near_lists.specs.Radii.{HaveRadii};
-
 use crate::Near;
 use chase_laws::{Edge, Pattern, Slot};
 use gk_base::NoMemory;
-use key_plan::Plan;
 use std::alloc::Global;
 use std::process::Abort;
 use std::test::Fail;
@@ -27,34 +23,14 @@ fn graph(
     Ok(Graph::build(alloc, rows, names, literal, Some(1), alike)?)
 }
 
-/// The plan of each pattern.
-fn plans_of(alloc: Global, patterns: &[Pattern]) -> Result<Vec<Plan>, NoMemory>
-    ensures { IfOk result (λ v. HaveRadii patterns.now v.items) }
-{
-    let mut plans = Vec::new(alloc);
-    for pattern in patterns {
-        plans.push(Plan::new(alloc, pattern)?)?;
-    }
-    Ok(plans)
-}
-
-/// What is near under one key.
-fn under_one(alloc: Global, graph: &Graph, key: Pattern) -> Result<Near, NoMemory> {
-    let patterns = vec![in alloc; key]?;
-    let plans = plans_of(alloc, &patterns)?;
-    Near::build(alloc, graph, &patterns, &plans)
-}
-
-/// What is near under two keys.
-fn under_two(
-    alloc: Global,
-    graph: &Graph,
-    first: Pattern,
-    second: Pattern,
-) -> Result<Near, NoMemory> {
-    let patterns = vec![in alloc; first, second]?;
-    let plans = plans_of(alloc, &patterns)?;
-    Near::build(alloc, graph, &patterns, &plans)
+/// A pattern: its slots, and its edges, each by slot, predicate and slot.
+macro_rules! pattern {
+    ($alloc:ident; $($slot:expr),+; $($from:literal $pred:tt $to:literal),+) => {
+        Pattern {
+            slots: vec![in $alloc; $($slot),+]?,
+            edges: vec![in $alloc; $(Edge { from: $from, pred: $pred, to: $to }),+]?,
+        }
+    };
 }
 
 /// The place behind the pairs of a name with each of these, if they stand from a place on.
@@ -93,45 +69,57 @@ fn are_owned(near: &Near, wanted: &[(u32, u32)]) -> bool {
     at == wanted.len()
 }
 
-/// An entity of type 2 with a name and a code.
+/// Asserts which names are near to which under some keys.
+fn assert_near(
+    rt: &impl Abort,
+    alloc: Global,
+    graph: &Graph,
+    keys: &[Pattern],
+    wanted: &[(u32, u32)],
+) -> Result<(), Fail> {
+    let near = Near::build(alloc, graph, keys)?;
+    assert!(rt; are_near(&near, wanted), "not near: {wanted:?}");
+    Ok(())
+}
+
+/// Asserts which names are near to which under one key.
+fn assert_near_by(
+    rt: &impl Abort,
+    alloc: Global,
+    graph: &Graph,
+    key: Pattern,
+    wanted: &[(u32, u32)],
+) -> Result<(), Fail> {
+    let keys = vec![in alloc; key]?;
+    assert_near(rt, alloc, graph, &keys, wanted)
+}
+
+/// Entities of type 2 with a name under 4 and a code under 6.
 fn base(alloc: Global) -> Result<Pattern, NoMemory> {
-    Ok(Pattern {
-        slots: vec![in alloc; Slot::Entity(2), Slot::Value, Slot::Value]?,
-        edges: vec![in alloc;
-            Edge {
-                from: 0,
-                pred: 4,
-                to: 1
-            },
-            Edge {
-                from: 0,
-                pred: 6,
-                to: 2
-            },
-        ]?,
-    })
+    Ok(pattern![alloc; Slot::Entity(2), Slot::Value, Slot::Value; 0 4 1, 0 6 2])
 }
 
-/// An entity of type 2 with a name, and with a next one.
+/// Entities of type 2 with a name under 4, and with a next one under 11.
 fn link(alloc: Global) -> Result<Pattern, NoMemory> {
-    Ok(Pattern {
-        slots: vec![in alloc; Slot::Entity(2), Slot::Entity(2), Slot::Value]?,
-        edges: vec![in alloc;
-            Edge {
-                from: 0,
-                pred: 4,
-                to: 2
-            },
-            Edge {
-                from: 0,
-                pred: 11,
-                to: 1
-            },
-        ]?,
-    })
+    Ok(pattern![alloc; Slot::Entity(2), Slot::Entity(2), Slot::Value; 0 4 2, 0 11 1])
 }
 
-/// Four entities of type 2, of which 8 leads to 0 and 9 to 3.
+/// Entities of a type to which one of type 2 leads.
+fn led_to(alloc: Global, of_type: u32, pred: u32) -> Result<Pattern, NoMemory> {
+    Ok(pattern![alloc; Slot::Entity(of_type), Slot::Entity(2); 1 pred 0])
+}
+
+/// Entities of type 2 that lead to something.
+fn leading(alloc: Global, pred: u32, to: Slot) -> Result<Pattern, NoMemory> {
+    Ok(pattern![alloc; Slot::Entity(2), to; 0 pred 1])
+}
+
+/// Entities of type 2 that share something with another one.
+fn sharing(alloc: Global, pred: u32, middle: Slot) -> Result<Pattern, NoMemory> {
+    Ok(pattern![alloc; Slot::Entity(2), middle, Slot::Entity(2); 0 pred 1, 2 pred 1])
+}
+
+/// Four entities of type 2, of which 0 is the next one of 8, and 3 that of 9.
 fn linked(rt: &impl Abort, alloc: Global) -> Result<Graph, Fail> {
     let rows = [
         [0, 1, 2],
@@ -154,216 +142,196 @@ fn linked(rt: &impl Abort, alloc: Global) -> Result<Graph, Fail> {
     graph(rt, alloc, &rows, &literal, &alike)
 }
 
-/// What is near among them under both keys.
-fn near_linked(alloc: Global, graph: &Graph) -> Result<Near, NoMemory> {
-    under_two(alloc, graph, base(alloc)?, link(alloc)?)
-}
+const NEAR_LINKED: [(u32, u32); 6] = [(0, 0), (3, 3), (8, 0), (8, 8), (9, 3), (9, 9)];
 
-const LINKED: [(u32, u32); 8] = [
-    (0, 0),
-    (0, 8),
-    (3, 3),
-    (3, 9),
-    (8, 0),
-    (8, 8),
-    (9, 3),
-    (9, 9),
-];
+const LINKED_OWNERS: [(u32, u32); 6] = [(0, 0), (0, 8), (3, 3), (3, 9), (8, 8), (9, 9)];
+
+const NEAR_NEXT: [(u32, u32); 6] = [(0, 0), (0, 8), (3, 3), (3, 9), (8, 8), (9, 9)];
 
 #[test]
-fn linked_entities_are_near_to_each_other(rt: HostRuntime) -> Result<(), Fail> {
-    let graph = linked(&rt, rt.alloc())?;
-    let near = near_linked(rt.alloc(), &graph)?;
+fn a_walk_goes_as_the_edge_does(rt: HostRuntime) -> Result<(), Fail> {
+    let alloc = rt.alloc();
+    let graph = linked(&rt, alloc)?;
+    let keys = vec![in alloc; base(alloc)?, link(alloc)?]?;
+    let near = Near::build(alloc, &graph, &keys)?;
     assert!(rt; near.names() == 12);
-    assert!(rt; are_near(&near, &LINKED));
-    assert!(rt; are_owned(&near, &LINKED));
-    Ok(())
+    assert!(rt; are_near(&near, &NEAR_LINKED));
+    assert!(rt; are_owned(&near, &LINKED_OWNERS));
+    assert_near_by(&rt, alloc, &graph, led_to(alloc, 2, 11)?, &NEAR_NEXT)
 }
 
-/// An entity of a type with a value under 4.
-fn one_away(alloc: Global, t: u32) -> Result<Pattern, NoMemory> {
-    Ok(Pattern {
-        slots: vec![in alloc; Slot::Entity(t), Slot::Value]?,
-        edges: vec![in alloc;
-            Edge {
-                from: 0,
-                pred: 4,
-                to: 1
-            },
-        ]?,
-    })
-}
-
-/// An entity of a type, from which two rows with 4 lead to a value.
-fn two_away(alloc: Global, t: u32) -> Result<Pattern, NoMemory> {
-    Ok(Pattern {
-        slots: vec![in alloc; Slot::Entity(t), Slot::Any(3), Slot::Value]?,
-        edges: vec![in alloc;
-            Edge {
-                from: 0,
-                pred: 4,
-                to: 1
-            },
-            Edge {
-                from: 1,
-                pred: 4,
-                to: 2
-            },
-        ]?,
-    })
-}
-
-/// An entity of a type, from which three rows with 4 lead to a value.
-fn three_away(alloc: Global, t: u32) -> Result<Pattern, NoMemory> {
-    Ok(Pattern {
-        slots: vec![in alloc; Slot::Entity(t), Slot::Any(3), Slot::Any(3), Slot::Value]?,
-        edges: vec![in alloc;
-            Edge {
-                from: 0,
-                pred: 4,
-                to: 1
-            },
-            Edge {
-                from: 1,
-                pred: 4,
-                to: 2
-            },
-            Edge {
-                from: 2,
-                pred: 4,
-                to: 3
-            },
-        ]?,
-    })
-}
-
-/// Entities joined by rows with 4, in both directions: 6, 7, 8, 9 and 10 one after another, and 12 with 7 through the
-/// literal 11. A row with 5 joins 6 and 13. The type of 6, 8 and 14 is 2, and 8 has type 3 too.
-fn joined(rt: &impl Abort, alloc: Global) -> Result<Graph, Fail> {
+/// 8, 9 and 10 have type 2. 8 and 9 are at 7, of type 3, and 10 is at 13, which has no type, all under 4. Under 5, 8 and
+/// 10 have the literal 11, and 9 has 12. Under 6, 8 leads to 9, 9 to 10, and 10 to itself.
+fn placed(rt: &impl Abort, alloc: Global) -> Result<Graph, Fail> {
     let rows = [
-        [6, 1, 2],
+        [7, 1, 3],
         [8, 1, 2],
-        [8, 1, 3],
-        [14, 1, 2],
-        [6, 4, 7],
-        [7, 4, 8],
-        [9, 4, 8],
-        [9, 4, 10],
-        [7, 4, 11],
-        [12, 4, 11],
-        [6, 5, 13],
+        [9, 1, 2],
+        [10, 1, 2],
+        [8, 4, 7],
+        [9, 4, 7],
+        [10, 4, 13],
+        [8, 5, 11],
+        [10, 5, 11],
+        [9, 5, 12],
+        [8, 6, 9],
+        [9, 6, 10],
+        [10, 6, 10],
     ];
     let literal = [
-        false, false, false, false, false, false, false, false, false, false, false, true, false,
-        false, false,
+        false, false, false, false, false, false, false, false, false, false, false, true, true,
+        false,
     ];
-    let alike = [0, 1, 2, 3, 4, 5, 6, 7, 8, 9, 10, 11, 12, 13, 14];
+    let alike = [0, 1, 2, 3, 4, 5, 6, 7, 8, 9, 10, 11, 12, 13];
     graph(rt, alloc, &rows, &literal, &alike)
 }
 
-const ONE_AWAY: [(u32, u32); 6] = [(6, 6), (6, 7), (8, 7), (8, 8), (8, 9), (14, 14)];
+const ITSELF: [(u32, u32); 3] = [(8, 8), (9, 9), (10, 10)];
 
-const OWNERS_ONE_AWAY: [(u32, u32); 6] = [(6, 6), (7, 6), (7, 8), (8, 8), (9, 8), (14, 14)];
+const NEAR_NEIGHBOURS: [(u32, u32); 5] = [(8, 8), (8, 9), (9, 8), (9, 9), (10, 10)];
 
-const TWO_AWAY: [(u32, u32); 9] = [
-    (6, 6),
-    (6, 7),
-    (6, 8),
-    (8, 6),
-    (8, 7),
+const NEAR_PLACES: [(u32, u32); 5] = [(8, 7), (8, 8), (9, 7), (9, 9), (10, 10)];
+
+#[test]
+fn a_shared_hub_is_passed_where_an_entity_lies_behind(rt: HostRuntime) -> Result<(), Fail> {
+    let alloc = rt.alloc();
+    let graph = placed(&rt, alloc)?;
+    assert_near_by(
+        &rt,
+        alloc,
+        &graph,
+        leading(alloc, 4, Slot::Any(3))?,
+        &ITSELF,
+    )?;
+    assert_near_by(
+        &rt,
+        alloc,
+        &graph,
+        sharing(alloc, 4, Slot::Any(3))?,
+        &NEAR_NEIGHBOURS,
+    )?;
+    assert_near_by(
+        &rt,
+        alloc,
+        &graph,
+        leading(alloc, 4, Slot::Entity(3))?,
+        &NEAR_PLACES,
+    )?;
+    // Of the type is the place alone.
+    assert_near_by(
+        &rt,
+        alloc,
+        &graph,
+        led_to(alloc, 3, 4)?,
+        &[(7, 7), (7, 8), (7, 9)],
+    )
+}
+
+/// With one's place and one's value.
+fn with_place_and_value_of(alloc: Global) -> Result<Pattern, NoMemory> {
+    Ok(
+        pattern![alloc; Slot::Entity(2), Slot::Any(3), Slot::Value, Slot::Entity(2); 0 4 1, 0 5 2, 3 4 1, 3 5 2],
+    )
+}
+
+const NEAR_ELEVEN: [(u32, u32); 5] = [(8, 8), (8, 10), (9, 9), (10, 8), (10, 10)];
+
+#[test]
+fn a_walk_passes_literals_and_constants(rt: HostRuntime) -> Result<(), Fail> {
+    let alloc = rt.alloc();
+    let graph = placed(&rt, alloc)?;
+    assert_near_by(
+        &rt,
+        alloc,
+        &graph,
+        sharing(alloc, 5, Slot::Value)?,
+        &NEAR_ELEVEN,
+    )?;
+    assert_near_by(
+        &rt,
+        alloc,
+        &graph,
+        sharing(alloc, 5, Slot::Fixed(11))?,
+        &NEAR_ELEVEN,
+    )?;
+    assert_near_by(
+        &rt,
+        alloc,
+        &graph,
+        sharing(alloc, 5, Slot::Fixed(12))?,
+        &ITSELF,
+    )
+}
+
+/// Leads to one that leads to one.
+fn leads_far(alloc: Global) -> Result<Pattern, NoMemory> {
+    Ok(pattern![alloc; Slot::Entity(2), Slot::Entity(2), Slot::Entity(2); 0 6 1, 1 6 2])
+}
+
+/// Leads to itself and to one.
+fn leads_to_itself(alloc: Global) -> Result<Pattern, NoMemory> {
+    Ok(pattern![alloc; Slot::Entity(2), Slot::Entity(2); 0 6 0, 0 6 1])
+}
+
+/// Leads to one at the same place.
+fn leads_inside(alloc: Global) -> Result<Pattern, NoMemory> {
+    Ok(pattern![alloc; Slot::Entity(2), Slot::Entity(2), Slot::Any(3); 0 6 1, 0 4 2, 1 4 2])
+}
+
+const NEAR_LED: [(u32, u32); 5] = [(8, 8), (8, 9), (9, 9), (9, 10), (10, 10)];
+
+const NEAR_BY_EITHER: [(u32, u32); 7] = [
     (8, 8),
     (8, 9),
     (8, 10),
-    (14, 14),
+    (9, 8),
+    (9, 9),
+    (10, 8),
+    (10, 10),
 ];
 
-const THREE_AWAY: [(u32, u32); 12] = [
-    (6, 6),
-    (6, 7),
-    (6, 8),
-    (6, 9),
-    (6, 12),
-    (8, 6),
-    (8, 7),
+#[test]
+fn a_walk_passes_only_edges_that_lead_further(rt: HostRuntime) -> Result<(), Fail> {
+    let alloc = rt.alloc();
+    let graph = placed(&rt, alloc)?;
+    // The edge of slot 0 with itself is not asked.
+    assert_near_by(&rt, alloc, &graph, leads_to_itself(alloc)?, &NEAR_LED)?;
+    // Nor is the edge that closes a cycle of three: 10 is not at the place of 9.
+    assert_near_by(&rt, alloc, &graph, leads_inside(alloc)?, &NEAR_LED)?;
+    // In a cycle of four two ways lead to the last slot: by the place and by the value.
+    assert_near_by(
+        &rt,
+        alloc,
+        &graph,
+        with_place_and_value_of(alloc)?,
+        &NEAR_BY_EITHER,
+    )
+}
+
+/// By two steps besides.
+const NEAR_LED_FAR: [(u32, u32); 6] = [(8, 8), (8, 9), (8, 10), (9, 9), (9, 10), (10, 10)];
+
+/// By a key of places, and by a key of what leads to one.
+const NEAR_APART: [(u32, u32); 8] = [
+    (7, 7),
+    (7, 8),
+    (7, 9),
     (8, 8),
     (8, 9),
-    (8, 10),
-    (8, 12),
-    (14, 14),
+    (9, 9),
+    (9, 10),
+    (10, 10),
 ];
 
 #[test]
-fn a_key_looks_one_row_away(rt: HostRuntime) -> Result<(), Fail> {
-    let graph = joined(&rt, rt.alloc())?;
-    let near = under_one(rt.alloc(), &graph, one_away(rt.alloc(), 2)?)?;
-    assert!(rt; are_near(&near, &ONE_AWAY));
-    assert!(rt; are_owned(&near, &OWNERS_ONE_AWAY));
-    Ok(())
-}
-
-#[test]
-fn a_key_looks_two_rows_away(rt: HostRuntime) -> Result<(), Fail> {
-    let graph = joined(&rt, rt.alloc())?;
-    let near = under_one(rt.alloc(), &graph, two_away(rt.alloc(), 2)?)?;
-    assert!(rt; are_near(&near, &TWO_AWAY));
-    Ok(())
-}
-
-#[test]
-fn a_key_looks_three_rows_away(rt: HostRuntime) -> Result<(), Fail> {
-    let graph = joined(&rt, rt.alloc())?;
-    let near = under_one(rt.alloc(), &graph, three_away(rt.alloc(), 2)?)?;
-    assert!(rt; are_near(&near, &THREE_AWAY));
-    Ok(())
-}
-
-#[test]
-fn a_key_looks_from_its_own_type(rt: HostRuntime) -> Result<(), Fail> {
-    let graph = joined(&rt, rt.alloc())?;
-    let near = under_one(rt.alloc(), &graph, one_away(rt.alloc(), 3)?)?;
-    assert!(rt; are_near(&near, &[(8, 7), (8, 8), (8, 9)]));
-    Ok(())
-}
-
-const ONE_OR_THREE_AWAY: [(u32, u32); 9] = [
-    (6, 6),
-    (6, 7),
-    (8, 6),
-    (8, 7),
-    (8, 8),
-    (8, 9),
-    (8, 10),
-    (8, 12),
-    (14, 14),
-];
-
-/// A key of type 2 that looks one row away and one of type 3 that looks three, or the other way round.
-fn near_by_both(alloc: Global, graph: &Graph, wide_first: bool) -> Result<Near, NoMemory> {
-    let narrow = one_away(alloc, 2)?;
-    let wide = three_away(alloc, 3)?;
-    if wide_first {
-        under_two(alloc, graph, wide, narrow)
-    } else {
-        under_two(alloc, graph, narrow, wide)
-    }
-}
-
-#[test]
-fn the_widest_key_of_an_entity_counts(rt: HostRuntime) -> Result<(), Fail> {
-    let graph = joined(&rt, rt.alloc())?;
-    for wide_first in [false, true] {
-        let near = near_by_both(rt.alloc(), &graph, wide_first)?;
-        assert!(rt; are_near(&near, &ONE_OR_THREE_AWAY));
-    }
-    Ok(())
-}
-
-#[test]
-fn without_keys_nothing_is_near(rt: HostRuntime) -> Result<(), Fail> {
-    let graph = joined(&rt, rt.alloc())?;
-    let near = Near::build(rt.alloc(), &graph, &[], &[])?;
-    assert!(rt; near.names() == 15);
-    assert!(rt; are_near(&near, &[]));
-    assert!(rt; are_owned(&near, &[]));
-    Ok(())
+fn each_key_of_a_type_is_asked(rt: HostRuntime) -> Result<(), Fail> {
+    let alloc = rt.alloc();
+    let graph = placed(&rt, alloc)?;
+    let short_first = vec![in alloc; leading(alloc, 6, Slot::Entity(2))?, leads_far(alloc)?]?;
+    assert_near(&rt, alloc, &graph, &short_first, &NEAR_LED_FAR)?;
+    let long_first = vec![in alloc; leads_far(alloc)?, leading(alloc, 6, Slot::Entity(2))?]?;
+    assert_near(&rt, alloc, &graph, &long_first, &NEAR_LED_FAR)?;
+    let apart = vec![in alloc; led_to(alloc, 3, 4)?, leading(alloc, 6, Slot::Entity(2))?]?;
+    assert_near(&rt, alloc, &graph, &apart, &NEAR_APART)?;
+    assert_near(&rt, alloc, &graph, &[], &[])
 }

@@ -1,13 +1,26 @@
 //! For each number the lists that have it, by two passes: one counts, the other fills.
 
 ghost use Rattle.std.specs.Prelude.{◌++◌, ◌≡◌, ◌<◌, ◌≤◌, ◌+◌, ◌^◌, ℕ, All, IfOk, length, slice_index, replicate};
-ghost use Rattle.near_lists.specs.Lists.{list_at};
-ghost use Rattle.near_lists.specs.Turning.{times, owners_of, owners_below};
+ghost use Rattle.list_pool.specs.Pool.{list_at};
+ghost use Rattle.list_pool.specs.Counts.{times};
+ghost use Rattle.near_lists.specs.Turning.{owners_of, owners_below};
 
 use crate::filling::Filling;
 use crate::rows::Rows;
 use gk_base::NoMemory;
 use std::alloc::{AllocError, Global};
+
+/// Adds to each number's tally how often it stands among these.
+pub(crate) fn tally(tallies: &mut [usize], items: &[u32])
+    requires named { All (λ m. m < length tallies.old) items.now }
+    requires room { (n : ℕ) → n < length tallies.old → slice_index tallies.old n + length items.now < 2 ^ 64 }
+    ensures one_each { length tallies.new ≡ length tallies.old }
+    ensures each { (n : ℕ) → n < length tallies.old → slice_index tallies.new n ≡ slice_index tallies.old n + times items.now n }
+{
+    for item in items {
+        tallies[*item as usize] += 1;
+    }
+}
 
 /// How often each number below `names` stands among these.
 fn tallies(alloc: Global, items: &[u32], names: u32) -> Result<Vec<usize>, AllocError>
@@ -16,14 +29,12 @@ fn tallies(alloc: Global, items: &[u32], names: u32) -> Result<Vec<usize>, Alloc
     ensures each { IfOk result (λ v. (n : ℕ) → n < names → slice_index v.items n ≡ times items.now n) }
 {
     let mut tallies = vec![in alloc; 0usize; names as usize]?;
-    for item in items {
-        tallies[*item as usize] += 1;
-    }
+    tally(&mut tallies, items);
     Ok(tallies)
 }
 
 /// Puts a place into the list of each number that stands in the list there.
-fn put_row(filling: &mut Filling, row: &[u32], place: u32)
+pub(crate) fn put_row(filling: &mut Filling, row: &[u32], place: u32)
     requires named { All (λ m. m < length filling.old.lists) row.now }
     requires room { (n : ℕ) → n < length filling.old.lists →
         slice_index filling.old.starts n + length (list_at filling.old.lists n) + times row.now n
@@ -50,7 +61,7 @@ fn put_rows(filling: &mut Filling, rows: &Rows)
     ensures starts { filling.new.starts ≡ filling.old.starts }
 {
     for place in 0..rows.len() as u32 {
-        put_row(filling, rows.of(place), place);
+        put_row(filling, rows.of(place as usize), place);
     }
 }
 

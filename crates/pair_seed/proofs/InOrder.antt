@@ -6,8 +6,8 @@ use Rattle.std.proofs.lemmas.List.Elements.{Contains-append_left, Contains-appen
 use Rattle.std.proofs.lemmas.List.Kept.{AllPairs-from_increasing}
 use Rattle.chase_laws.specs.Shape.{Shape}
 use Rattle.chase_laws.specs.Graph.{NumberedGraph}
-use Rattle.chase_laws.specs.Candidate.{IsCandidate}
-use Rattle.pair_seed.specs.Pairs.{AreAscending, HasMoreCandidates}
+use Rattle.chase_laws.specs.Candidate.{IsCandidate, AreAscending}
+use Rattle.pair_seed.specs.Pairs.{HasMoreCandidates}
 use Rattle.pair_seed.specs.Gathered.{ArePartners, AreCandidatesBelow}
 
 module _ (G : NumberedGraph) (K : List Shape) (n : ℕ) (ps : List (ℕ × ℕ)) (bs : List ℕ) (seed : AreCandidatesBelow G K n ps) (near : ArePartners G K n bs) where

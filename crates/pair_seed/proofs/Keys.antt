@@ -9,12 +9,12 @@ use Rattle.chase_laws.specs.declared.pattern.Slot.TheVariants.{Entity}
 use Rattle.chase_laws.specs.declared.pattern.Edge.{Edge}
 use Rattle.chase_laws.specs.Shape.{Shape}
 use Rattle.chase_laws.specs.Graph.{NumberedGraph, HasRow, HasType, IsLiteral}
-use Rattle.chase_laws.specs.Valuation.{FitsSlot}
-use Rattle.chase_laws.specs.Candidate.{Shares}
+use Rattle.chase_laws.specs.Valuation.{FitsSlot, Designates}
+use Rattle.chase_laws.specs.Candidate.{Shares, SharesAlong, IsCandidateUnder}
 use Rattle.typed_graph.specs.Table.{Table}
 use Rattle.pair_seed.specs.declared.lead.Lead.{Lead}
 use Rattle.pair_seed.specs.Folds.{HasAlike, Holds, IsFoldTable, Serves}
-use Rattle.pair_seed.specs.Key.{IsDesignated, SharesAt, SharesAtPlace, ArePaired, value_slot, IsLead}
+use Rattle.pair_seed.specs.Key.{SharesAtPlace, value_slot, IsLead}
 use Rattle.pair_seed.specs.Gathered.{HoldsOneOf}
 use Rattle.pair_seed.proofs.Lists.{some_same, contains_at, contains_next, contains_before, contains_here}
 
@@ -84,21 +84,24 @@ literal_named G n literal = elim (cases_lt n (length G.literal)) [
 ]
 
 -- what slot 0 asks of a name
-pub designated_fits : (G : NumberedGraph) (Q : Shape) (t n : ℕ) → slice_get Q.slots 0 ≡ Some (Entity t) → ¬ (IsLiteral G n) × HasType G n t → IsDesignated G Q n
-designated_fits G Q t n at fits slot here = subst (λ (s : Slot). FitsSlot G s n) (some_same (Entity t) slot (sym at ∙ here)) fits
+pub designated_fits : (G : NumberedGraph) (Q : Shape) (t n : ℕ) → slice_get Q.slots 0 ≡ Some (Entity t) → ¬ (IsLiteral G n) × HasType G n t → Designates G Q n
+designated_fits G Q t n at fits = (Entity t, at, fits)
+
+pub designated_by : (G : NumberedGraph) (Q : Shape) (t n : ℕ) → slice_get Q.slots 0 ≡ Some (Entity t) → Designates G Q n → FitsSlot G (Entity t) n
+designated_by G Q t n at d = subst (λ (s : Slot). FitsSlot G s n) (some_same d.0 (Entity t) (sym d.1 ∙ at)) d.2
 
 -- what an edge from slot 0 asks for, by its slot
-pub shares_slot : (G : NumberedGraph) (Q : Shape) (a b : ℕ) (e : Edge) (s : Slot) → slice_get Q.slots e.to ≡ Some s → e.from ≡ 0 → Shares G s e.pred a b ↔ SharesAt G Q a b e
+pub shares_slot : (G : NumberedGraph) (Q : Shape) (a b : ℕ) (e : Edge) (s : Slot) → slice_get Q.slots e.to ≡ Some s → e.from ≡ 0 → Shares G s e.pred a b ↔ SharesAlong G Q a b e
 shares_slot G Q a b e s at from = (
   (λ h zero slot here. subst (λ (r : Slot). Shares G r e.pred a b) (some_same s slot (sym at ∙ here)) h),
   (λ h. h from s at),
 )
 
 -- each edge stands at a place
-pub all_places : (G : NumberedGraph) (Q : Shape) (a b : ℕ) → ((place : ℕ) → SharesAtPlace G Q place a b) ↔ All (SharesAt G Q a b) Q.edges
+pub all_places : (G : NumberedGraph) (Q : Shape) (a b : ℕ) → ((place : ℕ) → SharesAtPlace G Q place a b) ↔ All (SharesAlong G Q a b) Q.edges
 all_places G Q a b = (
   (λ h k d in_k. h k (get_or Q.edges k d) (slice_get-get_or Q.edges k d in_k)),
-  (λ h place e here. subst (SharesAt G Q a b) (get_or_from_slice_get Q.edges place e e here) (h place e (slice_get_within Q.edges place e here))),
+  (λ h place e here. subst (SharesAlong G Q a b) (get_or_from_slice_get Q.edges place e e here) (h place e (slice_get_within Q.edges place e here))),
 )
 
 -- a literal of a that b has, or where values are folded is alike to one of b, is shared
@@ -116,12 +119,12 @@ module _ (G : NumberedGraph) (Q : Shape) (lead : Lead) (is : IsLead Q lead) wher
   lead_shares a b l row literal h e here =
       let same : is.edge ≡ e = some_same is.edge e (sym is.found ∙ here) in
       let shared : Shares G (value_slot lead.folded) is.edge.pred a b = subst (λ p. Shares G (value_slot lead.folded) p a b) (sym is.pred) (holds_shares G lead.folded lead.pred a b l row literal h) in
-      subst (SharesAt G Q a b) same ((shares_slot G Q a b is.edge (value_slot lead.folded) is.to is.from).0 shared)
+      subst (SharesAlong G Q a b) same ((shares_slot G Q a b is.edge (value_slot lead.folded) is.to is.from).0 shared)
 
   -- to whom the key pairs with a one of the lead's literals leads
-  pub lead_reaches : (a b : ℕ) → ArePaired G Q a b → (ls : List ℕ) → ((o : ℕ) → Contains ls o ↔ HasRow G a lead.pred o) → HoldsOneOf G lead.folded lead.pred ls b
+  pub lead_reaches : (a b : ℕ) → IsCandidateUnder G Q a b → (ls : List ℕ) → ((o : ℕ) → Contains ls o ↔ HasRow G a lead.pred o) → HoldsOneOf G lead.folded lead.pred ls b
   lead_reaches a b paired ls exact =
-      let at : SharesAt G Q a b is.edge = (all_places G Q a b).1 paired.share lead.place is.edge is.found in
+      let at : SharesAlong G Q a b is.edge = (all_places G Q a b).1 paired.share lead.place is.edge is.found in
       let s = shares_holds G lead.folded lead.pred a b (subst (λ p. Shares G (value_slot lead.folded) p a b) is.pred (at is.from (value_slot lead.folded) is.to)) in
       (s.0, (exact s.0).1 s.1, s.2, s.3)
 

@@ -8,12 +8,12 @@ use Rattle.std.proofs.lemmas.Cmp.{nat_eq_equiv}
 use Rattle.std.proofs.lemmas.List.Elements.{All-contains}
 use Rattle.std.proofs.lemmas.Map.Keys.{IsDistinct-from_apart}
 use Rattle.std.proofs.lemmas.Map.Made.{is_member-Decides, length-le_from_is_member}
-use Rattle.chase_laws.specs.declared.pattern.Slot.TheVariants.{Entity}
 use Rattle.chase_laws.specs.Shape.{Shape, PatternFacts}
 use Rattle.chase_laws.specs.Graph.{NumberedGraph, HasRow, HasType, IsGraph}
-use Rattle.chase_laws.specs.Candidate.{IsCandidate}
-use Rattle.pair_seed.specs.Pairs.{AreAscending, HasMoreCandidates}
+use Rattle.chase_laws.specs.Candidate.{IsCandidate, AreAscending}
+use Rattle.pair_seed.specs.Pairs.{HasMoreCandidates}
 use Rattle.pair_seed.specs.Gathered.{AreCandidatesBelow}
+use Rattle.pair_seed.proofs.Keys.{designated_by}
 
 -- whether two pairs are equal
 same_pair : ℕ × ℕ → ℕ × ℕ → Bool
@@ -63,8 +63,7 @@ module _ (G : NumberedGraph) (K : List Shape) (graph : IsGraph G) (valid : (key 
   pub candidate_named : (a b : ℕ) → IsCandidate G K a b → (a < length G.literal) × (b < length G.literal)
   candidate_named a b x =
       let first = (valid x.key x.pattern x.found).first in
-      let fits = x.designated (Entity first.0) first.1 in
-      (typed_named G a first.0 graph fits.0.1, typed_named G b first.0 graph fits.1.1)
+      (typed_named G a first.0 graph (designated_by G x.pattern first.0 a first.1 x.under.left).1, typed_named G b first.0 graph (designated_by G x.pattern first.0 b first.1 x.under.right).1)
 
   module _ (n : ℕ) (ps : List (ℕ × ℕ)) (below : AreCandidatesBelow G K n ps) (all : length G.literal ≤ n) where
     pub exact : (a b : ℕ) → Contains ps (a, b) ↔ IsCandidate G K a b

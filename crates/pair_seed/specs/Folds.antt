@@ -4,7 +4,7 @@ use Rattle.chase_laws.specs.declared.pattern.Slot.TheVariants.{Folded}
 use Rattle.chase_laws.specs.Shape.{Shape}
 use Rattle.chase_laws.specs.declared.pattern.Edge.{Edge}
 use Rattle.chase_laws.specs.Graph.{NumberedGraph, HasRow, IsLiteral}
-use Rattle.typed_graph.specs.Table.{Table, Stands}
+use Rattle.typed_graph.specs.Table.{Table, TableHas}
 
 -- under p, n has a literal that is alike to c
 pub record HasAlike (G : NumberedGraph) (n p c : ℕ) : Type 0 where
@@ -20,7 +20,7 @@ Holds G false p l b = HasRow G b p l
 
 -- the table has (c, p, n) exactly where n has under p a literal that is alike to c
 abbrev pub IsFoldTable : NumberedGraph → Table → Type 0
-IsFoldTable G T = (c p n : ℕ) → Stands T c p n ↔ HasAlike G n p c
+IsFoldTable G T = (c p n : ℕ) → TableHas T c p n ↔ HasAlike G n p c
 
 -- an edge from slot 0 to a folded value variable
 pub record IsFoldedEdge (Q : Shape) (e : Edge) : Type 0 where

@@ -3,16 +3,14 @@ use Rattle.std.specs.Prelude.{List, ℕ, Bool, Contains, Some, All, slice_get, �
 use Rattle.std.specs.List.Sorted.{IsStrictlyIncreasing}
 use Rattle.chase_laws.specs.Shape.{Shape}
 use Rattle.chase_laws.specs.Graph.{NumberedGraph, IsLiteral}
-use Rattle.chase_laws.specs.Candidate.{IsCandidate}
+use Rattle.chase_laws.specs.Candidate.{IsCandidate, IsCandidateUnder, AreAscending}
 use Rattle.pair_seed.specs.Folds.{Holds}
-use Rattle.pair_seed.specs.Key.{ArePaired}
-use Rattle.pair_seed.specs.Pairs.{AreAscending}
 
 -- to the old numbers came some above a that the key pairs with it, and of those with a mark all
 pub record Gathered (G : NumberedGraph) (Q : Shape) (a : ℕ) (old new : List ℕ) (Marked : ℕ → Type 0) : Type 0 where
   pub keeps : (b : ℕ) → Contains old b → Contains new b
-  pub adds : (b : ℕ) → Marked b → a < b → ArePaired G Q a b → Contains new b
-  pub only : (b : ℕ) → Contains new b → Contains old b ⊎ ((a < b) × ArePaired G Q a b)
+  pub adds : (b : ℕ) → Marked b → a < b → IsCandidateUnder G Q a b → Contains new b
+  pub only : (b : ℕ) → Contains new b → Contains old b ⊎ ((a < b) × IsCandidateUnder G Q a b)
 
 -- b has one of some literals, or one that is alike to it
 abbrev pub HoldsOneOf : NumberedGraph → Bool → ℕ → List ℕ → ℕ → Type 0
@@ -20,7 +18,7 @@ HoldsOneOf G folded p literals b = (l : ℕ) × Contains literals l × IsLiteral
 
 -- the numbers make candidates with a, and all that the first n keys find are there
 pub record Found (G : NumberedGraph) (K : List Shape) (a n : ℕ) (bs : List ℕ) : Type 0 where
-  pub adds : (key b : ℕ) (Q : Shape) → key < n → slice_get K key ≡ Some Q → a < b → ArePaired G Q a b → Contains bs b
+  pub adds : (key b : ℕ) (Q : Shape) → key < n → slice_get K key ≡ Some Q → a < b → IsCandidateUnder G Q a b → Contains bs b
   pub only : (b : ℕ) → Contains bs b → IsCandidate G K a b
 
 -- the numbers that make a candidate with a, which is the lower one, ascending

@@ -1,12 +1,8 @@
--- Lists of candidate pairs in order (this project's own).
-use Rattle.std.specs.Prelude.{List, ℕ, All, AllPairs, length, ◌≡◌, ◌<◌, ◌⊎◌}
+-- When there are too many candidate pairs (this project's own).
+use Rattle.std.specs.Prelude.{List, ℕ, All, length, ◌<◌}
 use Rattle.chase_laws.specs.Shape.{Shape}
 use Rattle.chase_laws.specs.Graph.{NumberedGraph}
-use Rattle.chase_laws.specs.Candidate.{IsCandidate}
-
--- pairs in strictly ascending order: by the first number, then by the second
-abbrev pub AreAscending : List (ℕ × ℕ) → Type 0
-AreAscending ps = AllPairs (λ x y. (x.0 < y.0) ⊎ ((x.0 ≡ y.0) × (x.1 < y.1))) ps
+use Rattle.chase_laws.specs.Candidate.{IsCandidate, AreAscending}
 
 -- there are more candidates than n: some list of different ones, in order, is longer (this project's own)
 pub record HasMoreCandidates (G : NumberedGraph) (K : List Shape) (n : ℕ) : Type 0 where

@@ -1,17 +1,16 @@
 //! All candidate pairs.
 
 ghost use Rattle.std.specs.Prelude.{◌≡◌, ◌<◌, ◌≤◌, ◌^◌, ◌↔◌, ◌++◌, ℕ, All, Contains, IfOk, IfErr, OnOk, length, map};
-ghost use Rattle.chase_laws.specs.Candidate.{IsCandidate};
+ghost use Rattle.chase_laws.specs.Candidate.{IsCandidate, AreAscending};
 ghost use Rattle.chase_laws.specs.Chase.{IsAble};
-ghost use Rattle.pair_seed.specs.Pairs.{AreAscending, HasMoreCandidates};
+ghost use Rattle.pair_seed.specs.Pairs.{HasMoreCandidates};
 ghost use Rattle.pair_seed.specs.Stop.{IsRightStop};
 
 use crate::SeedStop;
 use crate::folds::table_for;
 use crate::gather::partners;
-use crate::parts::all_valid;
-use chase_laws::Pattern;
 use chase_laws::laws::law_able;
+use chase_laws::{Pattern, all_valid};
 use std::alloc::{AllocError, Global};
 use typed_graph::Graph;
 

@@ -4,11 +4,12 @@ ghost use Rattle.std.specs.Prelude.{◌≡◌, ◌<◌, ◌↔◌, ℕ, [], ◌�
 ghost use Rattle.chase_laws.specs.Shape.{Shape};
 ghost use Rattle.chase_laws.specs.Graph.{IsLiteral};
 ghost use Rattle.pair_seed.specs.Folds.{Holds, Serves};
-ghost use Rattle.pair_seed.specs.Key.{IsDesignated, SharesAtPlace, IsLead};
+ghost use Rattle.chase_laws.specs.Valuation.{Designates};
+ghost use Rattle.pair_seed.specs.Key.{SharesAtPlace, IsLead};
 ghost use Rattle.pair_seed.specs.Gathered.{Gathered, Found, ArePartners};
 
 use crate::lead::{Lead, choose};
-use crate::parts::{designated, edge_count};
+use crate::parts::edge_count;
 use crate::share::{designates, pairs_with};
 use chase_laws::Pattern;
 use std::alloc::AllocError;
@@ -26,7 +27,7 @@ fn gather(
     near: &mut Vec<u32>,
 ) -> Result<(), AllocError>
     requires folds { Serves graph.now folds.now pattern.now }
-    requires left { IsDesignated graph.now pattern.now a }
+    requires left { Designates graph.now pattern.now a }
     requires lead { (b : ℕ) → Contains bs.now b → SharesAtPlace graph.now pattern.now lead a b }
     requires above { (b : ℕ) → Contains bs.now b → a < b }
     ensures { IfOk result (λ _. Gathered graph.now pattern.now a near.old.items near.new.items (λ b. Contains bs.now b)) }
@@ -50,7 +51,7 @@ fn gather_literal(
     near: &mut Vec<u32>,
 ) -> Result<(), AllocError>
     requires folds { Serves graph.now folds.now pattern.now }
-    requires left { IsDesignated graph.now pattern.now a }
+    requires left { Designates graph.now pattern.now a }
     requires lead { IsLead pattern.now lead }
     requires row { Contains graph.now.rows (a ∷ lead.pred ∷ l ∷ []) }
     requires named { l < length graph.now.literal }
@@ -73,7 +74,7 @@ fn gather_lead(
     near: &mut Vec<u32>,
 ) -> Result<(), AllocError>
     requires folds { Serves graph.now folds.now pattern.now }
-    requires left { IsDesignated graph.now pattern.now a }
+    requires left { Designates graph.now pattern.now a }
     requires lead { IsLead pattern.now lead }
     ensures { IfOk result (λ _. Gathered graph.now pattern.now a near.old.items near.new.items (λ b. ⊤)) }
 {
@@ -92,10 +93,10 @@ fn gather_type(
     near: &mut Vec<u32>,
 ) -> Result<(), AllocError>
     requires folds { Serves graph.now folds.now pattern.now }
-    requires left { IsDesignated graph.now pattern.now a }
+    requires left { Designates graph.now pattern.now a }
     ensures { IfOk result (λ _. Gathered graph.now pattern.now a near.old.items near.new.items (λ b. ⊤)) }
 {
-    let bs = above(graph.with_type(designated(pattern)), a);
+    let bs = above(graph.with_type(pattern.designated_type()), a);
     gather(graph, folds, pattern, edge_count(pattern), a, bs, near)?;
     Ok(())
 }

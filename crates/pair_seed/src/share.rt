@@ -3,21 +3,22 @@
 ghost use Rattle.std.specs.Prelude.{◌≡◌, ◌≢◌, ◌<◌, ◌↔◌, ℕ, Contains, IsTrue, length, slice_index};
 ghost use Rattle.std.specs.List.Sorted.{IsStrictlyIncreasing};
 ghost use Rattle.chase_laws.specs.Graph.{IsLiteral};
-ghost use Rattle.chase_laws.specs.Candidate.{Shares};
+ghost use Rattle.chase_laws.specs.Candidate.{Shares, SharesAlong, IsCandidateUnder};
 ghost use Rattle.chase_laws.specs.declared.pattern.Slot.TheVariants.{Value, Folded};
 ghost use Rattle.pair_seed.specs.Folds.{HasAlike, IsFoldTable, Serves};
-ghost use Rattle.pair_seed.specs.Key.{IsDesignated, SharesAt, SharesAtPlace, ArePaired};
+ghost use Rattle.chase_laws.specs.Valuation.{Designates};
+ghost use Rattle.pair_seed.specs.Key.{SharesAtPlace};
 
-use crate::parts::{designated, edge_at, edge_count, slot_at};
+use crate::parts::{edge_at, edge_count, slot_at};
 use chase_laws::{Edge, Pattern, Slot};
 use typed_graph::ascending::holds;
 use typed_graph::{Graph, Index};
 
 /// Whether the key designates a type of a name.
 pub(crate) fn designates(graph: &Graph, pattern: &Pattern, n: u32) -> bool
-    ensures { IsTrue result ↔ IsDesignated graph.now pattern.now n }
+    ensures { IsTrue result ↔ Designates graph.now pattern.now n }
 {
-    let t = designated(pattern);
+    let t = pattern.designated_type();
     if graph.is_literal(n) {
         return false;
     }
@@ -85,7 +86,7 @@ fn shares_at(graph: &Graph, folds: &Index, pattern: &Pattern, edge: Edge, a: u32
     requires edge { Contains pattern.now.edges edge }
     requires to { edge.to < length pattern.now.slots }
     requires folds { Serves graph.now folds.now pattern.now }
-    ensures { IsTrue result ↔ SharesAt graph.now pattern.now a b edge }
+    ensures { IsTrue result ↔ SharesAlong graph.now pattern.now a b edge }
 {
     if edge.from != 0 {
         return true;
@@ -125,9 +126,9 @@ pub(crate) fn pairs_with(
     b: u32,
 ) -> bool
     requires folds { Serves graph.now folds.now pattern.now }
-    requires left { IsDesignated graph.now pattern.now a }
+    requires left { Designates graph.now pattern.now a }
     requires lead { SharesAtPlace graph.now pattern.now lead a b }
-    ensures { IsTrue result ↔ ArePaired graph.now pattern.now a b }
+    ensures { IsTrue result ↔ IsCandidateUnder graph.now pattern.now a b }
 {
     designates(graph, pattern, b) && shares_all(graph, folds, pattern, lead, a, b)
 }

@@ -11,7 +11,7 @@ abbrev pub Ascends : List (ℕ × ℕ) → Type 0
 Ascends pairs = AllPairs (λ p q. p.0 < q.0) pairs
 
 -- what holds of a view's fields: the names ascend, and there is room
-pub record IsHeld (pairs : List (ℕ × ℕ)) (room capacity : ℕ) : Type 0 where
+pub record IsView (pairs : List (ℕ × ℕ)) (room capacity : ℕ) : Type 0 where
   pub ascends : Ascends pairs
   pub within : length pairs ≤ room
   pub reserved : room ≤ capacity

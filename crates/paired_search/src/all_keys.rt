@@ -1,7 +1,7 @@
 //! The search over all keys.
 
 ghost use Rattle.std.specs.Prelude.{◌≡◌, ◌<◌, ◌≤◌, ◌^◌, ℕ, List, Some, IfSome, IfNone, length, slice_get, slice_index};
-ghost use Rattle.chase_laws.specs.Shape.{Shape, PatternFacts};
+ghost use Rattle.chase_laws.specs.Shape.{Shape};
 ghost use Rattle.chase_laws.specs.Valuation.{IsMatch, Matches};
 ghost use Rattle.chase_laws.specs.View.{same_by};
 ghost use Rattle.key_plan.specs.Route.{IsPlanOf};
@@ -11,7 +11,7 @@ ghost use Rattle.paired_search.specs.Plans.{ArePlans};
 use crate::View;
 use crate::extend::{extend, joins};
 use crate::fits::goes_on;
-use chase_laws::{Pattern, Places, laws};
+use chase_laws::{Pattern, Places};
 use key_plan::Plan;
 use typed_graph::Graph;
 
@@ -65,14 +65,6 @@ fn by_slots(plan: &Plan, places: &Places) -> Places
     list
 }
 
-/// What holds of every pattern.
-fn pattern_facts(pattern: &Pattern)
-    ensures { PatternFacts pattern.now }
-{
-    laws::law_pattern();
-    let _ = &pattern.slots;
-}
-
 /// Two valuations of one key at `a` and `b` that coincide up to the view; None exactly where there are none.
 fn search_key(
     graph: &Graph,
@@ -86,7 +78,7 @@ fn search_key(
     ensures found { IfSome result (λ f. IsMatch graph.now pattern.now (same_by view.now.pairs) a b f.0 f.1) }
     ensures none { IfNone result ((v w : List ℕ) → ¬ (IsMatch graph.now pattern.now (same_by view.now.pairs) a b v w)) }
 {
-    pattern_facts(pattern);
+    let _ = pattern.slots();
     match search_placed(graph, plan, view, a, b) {
         None => None,
         Some(placed) => Some((by_slots(plan, &placed.0), by_slots(plan, &placed.1))),

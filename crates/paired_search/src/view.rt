@@ -19,13 +19,13 @@ pub struct View {
 
 impl Model for View {
     ghost use Rattle.std.specs.Prelude.{length, vec_capacity, ◌≤◌};
-    ghost use Rattle.paired_search.specs.Held.{Held, Ascends, IsHeld};
+    ghost use Rattle.paired_search.specs.Held.{Held, Ascends, IsView};
 
     ghost Value = { Held };
 
     ghost view = { λ v. record { pairs = v.pairs.items; room = v.room } };
 
-    ghost invariant = { λ v. IsHeld v.pairs.items v.room (vec_capacity v.pairs) };
+    ghost invariant = { λ v. IsView v.pairs.items v.room (vec_capacity v.pairs) };
 }
 
 /// How many of the names are below `node`.

@@ -3,7 +3,7 @@ use Rattle.std.proofs.Common.{List, ℕ, ◌≡◌, ◌<◌, ◌≤◌, ◌+◌,
 use Rattle.std.proofs.lemmas.Bool.{cases_lt}
 use Rattle.std.proofs.lemmas.List.{get_or-take, get_or-drop, length-take-le, length-drop, get_or_default}
 use Rattle.std.specs.List.Sorted.{IsStrictlyIncreasing, IsNonDecreasing}
-use Rattle.typed_graph.specs.Table.{Table, Stands, IsTable}
+use Rattle.typed_graph.specs.Table.{Table, TableHas, IsTable}
 
 pub part_at : (xs : List ℕ) (from count k d : ℕ) → k < count → get_or (take count (drop from xs)) k d ≡ get_or xs (from + k) d
 part_at xs from count k d h = get_or-take count (drop from xs) k d h ∙ get_or-drop from xs k d
@@ -87,7 +87,7 @@ abbrev pub part : Table → ℕ → ℕ → ℕ → List ℕ
 part T from low high = take ((from + high) - (from + low)) (drop (from + low) T.lasts)
 
 pub part_exact : (T : Table) (n p low high : ℕ) → IsTable T → n + 1 < length T.starts → Bounds T n p low high → (c : ℕ) →
-    Contains (part T (slice_index T.starts n) low high) c ↔ Stands T n p c
+    Contains (part T (slice_index T.starts n) low high) c ↔ TableHas T n p c
 part_exact T n p low high ok named b c =
     let from = slice_index T.starts n in
     let to = slice_index T.starts (n + 1) in

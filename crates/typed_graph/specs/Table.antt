@@ -9,7 +9,7 @@ pub record Table : Type 0 where
   pub lasts : List ℕ
 
 -- the table has the row (n, p, c)
-pub record Stands (T : Table) (n p c : ℕ) : Type 0 where
+pub record TableHas (T : Table) (n p c : ℕ) : Type 0 where
   pub place : ℕ
   pub named : n + 1 < length T.starts
   pub from : slice_index T.starts n ≤ place
@@ -47,7 +47,7 @@ pub record IsStart (rows : List (List ℕ)) (n k : ℕ) : Type 0 where
   pub above : (i : ℕ) → k ≤ i → i < length rows → n ≤ slice_index (row_at rows i) 0
 
 -- for each first number the place where its rows begin, and at last the place where all end
-pub record AreStarts (rows : List (List ℕ)) (names : ℕ) (starts : List ℕ) : Type 0 where
+pub record AreRowStarts (rows : List (List ℕ)) (names : ℕ) (starts : List ℕ) : Type 0 where
   pub count : length starts ≡ names + 1
   pub each : (n : ℕ) → n < names + 1 → IsStart rows n (slice_index starts n)
 

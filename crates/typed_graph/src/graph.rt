@@ -34,9 +34,9 @@ impl Model for Graph {
 
     ghost Value = { NumberedGraph };
 
-    ghost use Rattle.typed_graph.specs.Indexed.{graph_of, IsIndexed};
+    ghost use Rattle.typed_graph.specs.Indexed.{indexed_graph, IsIndexed};
 
-    ghost view = { graph_of };
+    ghost view = { indexed_graph };
 
     ghost invariant = { IsIndexed };
 }

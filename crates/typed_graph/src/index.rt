@@ -2,7 +2,7 @@
 
 ghost use Rattle.std.specs.Prelude.{◌≡◌, ◌<◌, ◌≤◌, ◌+◌, ◌-◌, ◌↔◌, ℕ, [], ◌∷◌, All, Contains, IfOk, IsTrue, length, take, drop, map, slice_index};
 ghost use Rattle.std.specs.List.Sorted.{IsStrictlyIncreasing, IsNonDecreasing};
-ghost use Rattle.typed_graph.specs.Table.{Stands, IsTable, RowsRise, IsStart, AreStarts};
+ghost use Rattle.typed_graph.specs.Table.{TableHas, IsTable, RowsRise, IsStart, AreRowStarts};
 
 use crate::ascending::{cut, lower, upper};
 use crate::rows::sorted;
@@ -14,7 +14,7 @@ use std::marker::Model;
 fn find_parts<'a>(starts: &[usize], middles: &[u32], lasts: &'a [u32], n: u32, p: u32) -> &'a [u32]
     requires { IsTable (record { starts = starts.now; middles = middles.now; lasts = lasts.now }) }
     ensures ascending { IsStrictlyIncreasing result.now }
-    ensures exact { (c : ℕ) → Contains result.now c ↔ Stands (record { starts = starts.now; middles = middles.now; lasts = lasts.now }) n p c }
+    ensures exact { (c : ℕ) → Contains result.now c ↔ TableHas (record { starts = starts.now; middles = middles.now; lasts = lasts.now }) n p c }
 {
     let at = n as usize;
     if at + 1 >= starts.len() {
@@ -52,7 +52,7 @@ impl Index {
     /// below `names`. Fails only for want of memory.
     pub fn build(alloc: Global, rows: Vec<[u32; 3]>, names: u32) -> Result<Index, NoMemory>
         requires { All (λ row. slice_index row 0 < names) rows.items }
-        ensures { IfOk result (λ t. (n p c : ℕ) → Stands t n p c ↔ Contains rows.items (n ∷ p ∷ c ∷ [])) }
+        ensures { IfOk result (λ t. (n p c : ℕ) → TableHas t n p c ↔ Contains rows.items (n ∷ p ∷ c ∷ [])) }
     {
         let rows = sorted(rows);
         Ok(Index::from_sorted(alloc, &rows, names)?)
@@ -66,7 +66,7 @@ impl Index {
     ) -> Result<Index, AllocError>
         requires rise { RowsRise rows.now }
         requires named { All (λ row. slice_index row 0 < names) rows.now }
-        ensures { IfOk result (λ t. (n p c : ℕ) → Stands t n p c ↔ Contains rows.now (n ∷ p ∷ c ∷ [])) }
+        ensures { IfOk result (λ t. (n p c : ℕ) → TableHas t n p c ↔ Contains rows.now (n ∷ p ∷ c ∷ [])) }
     {
         let starts = starts_of(alloc, rows, names)?;
         let middles = column(alloc, rows, 1)?;
@@ -81,7 +81,7 @@ impl Index {
     /// The last numbers of the rows that begin with `n` and `p`, ascending without repeats.
     pub fn find(&self, n: u32, p: u32) -> &[u32]
         ensures ascending { IsStrictlyIncreasing result.now }
-        ensures exact { (c : ℕ) → Contains result.now c ↔ Stands self.now n p c }
+        ensures exact { (c : ℕ) → Contains result.now c ↔ TableHas self.now n p c }
     {
         find_parts(&self.starts, &self.middles, &self.lasts, n, p)
     }
@@ -98,7 +98,7 @@ impl Index {
 
     /// Whether some row begins with `n`.
     pub fn begins(&self, n: u32) -> bool
-        ensures { IsTrue result ↔ ((p c : ℕ) × Stands self.now n p c) }
+        ensures { IsTrue result ↔ ((p c : ℕ) × TableHas self.now n p c) }
     {
         let at = n as usize;
         at + 1 < self.starts.len() && self.starts[at] < self.starts[at + 1]
@@ -122,7 +122,7 @@ fn block_end(rows: &[[u32; 3]], n: u32, start: usize) -> usize
 fn starts_of(alloc: Global, rows: &[[u32; 3]], names: u32) -> Result<Vec<usize>, AllocError>
     requires rise { RowsRise rows.now }
     requires named { All (λ row. slice_index row 0 < names) rows.now }
-    ensures { IfOk result (λ v. AreStarts rows.now names v.items) }
+    ensures { IfOk result (λ v. AreRowStarts rows.now names v.items) }
 {
     let mut starts = Vec::with_capacity(alloc, names as usize + 1)?;
     let mut place = 0;

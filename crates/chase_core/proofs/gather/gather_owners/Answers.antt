@@ -1,9 +1,9 @@
 -- The pairs of one owner after another.
 use Rattle.std.proofs.Common.{ℕ, Contains, take, get_or, subst, sym, ◌∙◌, take_all, refl}
 use Rattle.std.proofs.lemmas.List.Elements.{Contains-get_or}
-use Rattle.near_lists.specs.Lists.{list_at}
+use Rattle.list_pool.specs.Pool.{list_at}
 use Rattle.near_lists.specs.Neighbourhoods.{Neighbourhoods}
-use Rattle.chase_core.specs.Ends.{HasEnd}
+use Rattle.near_lists.specs.Turning.{HasEnd}
 use Rattle.chase_core.specs.Gathering.{LooksAt}
 use Rattle.chase_core.proofs.Members.{Contains-nil}
 use Rattle.chase_core.proofs.Aside.{aside_none, aside_same, aside_more}

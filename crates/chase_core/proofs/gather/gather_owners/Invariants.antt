@@ -1,5 +1,5 @@
 use Rattle.std.proofs.Common.{ℕ, ◌≡◌, Contains, length, take, vec_capacity}
-use Rattle.chase_core.specs.Ends.{HasEnd}
+use Rattle.near_lists.specs.Turning.{HasEnd}
 use Rattle.chase_core.specs.Gathering.{SetsAside, AreAside}
 use Rattle.chase_core.proofs.gather.gather_owners.Given as goal
 

@@ -1,8 +1,8 @@
 -- Pair by pair.
 use Rattle.std.proofs.Common.{ℕ, ◌≡◌, Contains, take, get_or, length, slice_set, vec_capacity, subst, sym, ◌∙◌, ap, refl, take_all, length-set}
 use Rattle.chase_laws.specs.declared.pair_state.PairState.TheVariants as state
-use Rattle.chase_core.specs.Ends.{HasEnd}
-use Rattle.chase_core.specs.Table.{Table}
+use Rattle.near_lists.specs.Turning.{HasEnd}
+use Rattle.chase_core.specs.Table.{Standings}
 use Rattle.chase_core.specs.Gathering.{SetsAside}
 use Rattle.chase_core.proofs.Members.{Contains-nil}
 use Rattle.chase_core.proofs.Ends.{listed_within}
@@ -38,26 +38,26 @@ loop-pair-preserved c =
     let old = c.loop-pair.table in
     let xs = c.loop-pair.aside.items in
     let capacity = vec_capacity c.loop-pair.aside in
-    let more = λ (new : Table) (ys : _) (s : SetsAside (λ q. p ≡ q) old new xs ys).
+    let more = λ (new : Standings) (ys : _) (s : SetsAside (λ q. p ≡ q) old new xs ys).
     aside_more (λ q n. n ≡ q) numbers i c.args.table.now old new c.args.aside.now.items xs ys c.loop-pair-test.true v.sets s in
     elim c.match-state.branch [
       | in-Missed w ↦
           (let missed = w.in-Missed.ensures.state in
           let pushed = w.push_reserved.ensures.items in
           let new = c.match-state.table in
-          let states : new.states ≡ slice_set old.states p state.Flying = ap (λ (t : Table). t.states) w.table-is ∙ w.mark.ensures.states in
+          let states : new.states ≡ slice_set old.states p state.Flying = ap (λ (t : Standings). t.states) w.table-is ∙ w.mark.ensures.states in
           let items = ap (λ v. v.items) w.aside-is ∙ pushed in
           let room = ap vec_capacity w.aside-is ∙ w.push_reserved.ensures.capacity in
           record {
             states = ap length states ∙ length-set old.states p state.Flying ∙ v.states;
             aside = rw (states, items, room) (aside_push old.states xs capacity v.aside p missed);
-            sets = more new c.match-state.aside.items (rw items (aside_one old new p xs w.in-Missed.ensures.ready missed states (ap (λ (t : Table). t.ready) w.table-is ∙ w.mark.ensures.ready)));
+            sets = more new c.match-state.aside.items (rw items (aside_one old new p xs w.in-Missed.ensures.ready missed states (ap (λ (t : Standings). t.ready) w.table-is ∙ w.mark.ensures.ready)));
             capacity = room ∙ v.capacity;
           })
       | in_default w ↦
           (let other = not_missed old.states p c.state.result c.state.ensures.state w.in_default.not-Missed in
           record {
-            states = ap (λ (t : Table). length t.states) w.table-is ∙ v.states;
+            states = ap (λ (t : Standings). length t.states) w.table-is ∙ v.states;
             aside = rw (w.table-is, w.aside-is) v.aside;
             sets = rw (w.table-is, w.aside-is) (more old xs (aside_skip old p xs other));
             capacity = ap vec_capacity w.aside-is ∙ v.capacity;

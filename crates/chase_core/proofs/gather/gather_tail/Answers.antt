@@ -4,7 +4,7 @@ use Rattle.std.specs.Prelude.{IfSome}
 use Rattle.std.proofs.lemmas.Option.{slice_get-get_or, get_or_from_slice_get}
 use Rattle.std.proofs.lemmas.List.{get_or-drop}
 use Rattle.class_book.specs.Classes.{Classes, class_of}
-use Rattle.chase_core.specs.Table.{Table}
+use Rattle.chase_core.specs.Table.{Standings}
 use Rattle.chase_core.specs.Gathering.{LooksAt, SetsAside, tail_of}
 use Rattle.chase_core.proofs.Members.{Contains-nil}
 use Rattle.chase_core.proofs.Aside.{aside_none, aside_more}
@@ -49,7 +49,7 @@ loop-done-preserved c =
           let e = w.gather_owners.ensures in
           let next = w.next_member-member.ensures in
           record {
-            states = ap (λ (t : Table). length t.states) w.table-is ∙ e.states;
+            states = ap (λ (t : Standings). length t.states) w.table-is ∙ e.states;
             aside = rw (w.table-is, w.aside-is) e.aside;
             member = w.member-is ∙ next.next (base + i) (rw same.1 here) ∙ ap (λ xs. slice_get xs (base + i + 1)) same.1 ∙ ap (slice_get L) (add_assoc base i 1);
             same_class = rw w.member-is (both book w.next_member-member.result L (class_of book x) next.in_range next.same_class same.1);

@@ -2,7 +2,7 @@
 use Rattle.std.proofs.Common.{sym, ◌∙◌, ap, subst, slice_set}
 use Rattle.list_pool.specs.Pool.{Lists, list_at, without}
 use Rattle.chase_laws.specs.declared.pair_state.PairState.TheVariants as state
-use Rattle.chase_core.specs.Table.{IsTable}
+use Rattle.chase_core.specs.Table.{AreStandings}
 use Rattle.chase_core.proofs.Tables.{listed, mark_ready, mark_other, ready_stands, other_stands_not, without_none, stands_read, stands_not}
 use Rattle.chase_core.proofs.table.mark_parts.Goals as goal
 use Rattle.chase_core.proofs.table.mark_parts.Goals.{in-Ready, in_default}
@@ -19,7 +19,7 @@ returns-clause-table c =
     elim c.match-index.branch [
       | in-Ready w ↦ mark_ready states old.lists old.cells c.requires.table c.args.pair c.requires.pair c.args.to c.requires.other c.match-index.waiting.lists c.match-index.waiting.cells
           (ap (λ (p : Lists). p.lists) w.waiting-is ∙ w.remove.ensures.lists) (ap (λ (p : Lists). p.cells) w.waiting-is ∙ w.remove.ensures.cells)
-      | in_default w ↦ subst (λ (p : Lists). IsTable (slice_set states c.args.pair c.args.to) p.lists p.cells) (sym w.waiting-is)
+      | in_default w ↦ subst (λ (p : Lists). AreStandings (slice_set states c.args.pair c.args.to) p.lists p.cells) (sym w.waiting-is)
           (mark_other states old.lists old.cells c.requires.table c.args.pair c.requires.pair c.args.to c.requires.other
           (stands_not states c.args.pair c.index.result.now state.Ready c.requires.pair c.index.ensures w.in_default.not-Ready))
     ]

@@ -1,6 +1,6 @@
 -- The view is as wide as the near lists of the pair's ends, and has their names.
 use Rattle.std.proofs.Common.{◌≡◌, Contains, inl, inr, length, sym, subst, ◌∙◌, ap, arith}
-use Rattle.near_lists.specs.Lists.{list_at}
+use Rattle.list_pool.specs.Pool.{list_at}
 use Rattle.near_lists.specs.Neighbourhoods.{Neighbourhoods}
 use Rattle.chase_core.proofs.Widest.{room_enough}
 use Rattle.chase_core.proofs.take.hand_out.Goals as goal

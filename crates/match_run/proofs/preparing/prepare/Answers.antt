@@ -1,6 +1,6 @@
 -- The setup's pairs are the candidates.
-use Rattle.std.proofs.Common.{List, ℕ, Contains, length, ◌↔◌, ap, sym, subst}
-use Rattle.chase_laws.specs.Candidate.{IsCandidate}
+use Rattle.std.proofs.Common.{List, ℕ, Contains, ◌↔◌, ap, sym, subst, arith}
+use Rattle.chase_laws.specs.Candidate.{IsCandidate, IsCandidateCount}
 use Rattle.match_run.proofs.preparing.prepare.Goals as goal
 
 pub returns-clause-pairs : goal.returns-clause-pairs
@@ -11,5 +11,6 @@ returns-clause-pairs c =
 
 pub returns-clause-seeded : goal.returns-clause-seeded
 returns-clause-seeded c =
-    let e = ap (λ t. length t.pairs) c.in_ok-setup.ensures in
-    cc
+    let found = c.in_ok-pairs.ensures in
+    subst (λ K. IsCandidateCount c.args.graph K c.len-seeded.result) c.deref.ensures.value
+    (record { pairs = c.in_ok-pairs.pairs.items; ascending = found.ascending; exact = found.pairs; count = omega (arith, c.len-seeded.ensures, c.in_ok-pairs.pairs.ok.0) })

@@ -25,14 +25,14 @@ returns-then-len-limit-clause-stop c =
     (refl, too_many c.args.graph.now c.args.patterns.now c.loop-a.a c.loop-a.pairs.items c.partners.new.near.items c.loop-a.invariant.pairs c.in_ok-partners.ensures c.args.limit (omega arith))
 
 pub returns-clause-pairs : goal.returns-clause-pairs
-returns-clause-pairs c = exact c.args.graph.now c.args.patterns.now c.names-a-end.ensures.graph c.all_valid.ensures c.loop-a.a c.loop-a.pairs.items c.loop-a.invariant.pairs (omega arith)
+returns-clause-pairs c = exact c.args.graph.now c.args.patterns.now c.names-a-end.ensures.graph c.all_valid.ensures.facts c.loop-a.a c.loop-a.pairs.items c.loop-a.invariant.pairs (omega arith)
 
 pub returns-clause-able : goal.returns-clause-able
-returns-clause-able c = λ a b able. (exact c.args.graph.now c.args.patterns.now c.names-a-end.ensures.graph c.all_valid.ensures c.loop-a.a c.loop-a.pairs.items c.loop-a.invariant.pairs (omega arith) a b).1
+returns-clause-able c = λ a b able. (exact c.args.graph.now c.args.patterns.now c.names-a-end.ensures.graph c.all_valid.ensures.facts c.loop-a.a c.loop-a.pairs.items c.loop-a.invariant.pairs (omega arith) a b).1
     (c.law_able.ensures c.args.graph.now c.args.patterns.now a b able)
 
 pub returns-clause-named : goal.returns-clause-named
-returns-clause-named c = named c.args.graph.now c.args.patterns.now c.names-a-end.ensures.graph c.all_valid.ensures c.loop-a.a c.loop-a.pairs.items c.loop-a.invariant.pairs (omega arith)
+returns-clause-named c = named c.args.graph.now c.args.patterns.now c.names-a-end.ensures.graph c.all_valid.ensures.facts c.loop-a.a c.loop-a.pairs.items c.loop-a.invariant.pairs (omega arith)
 
 pub returns-clause-no_more : goal.returns-clause-no_more
-returns-clause-no_more c = no_more c.args.graph.now c.args.patterns.now c.names-a-end.ensures.graph c.all_valid.ensures c.loop-a.a c.loop-a.pairs.items c.loop-a.invariant.pairs (omega arith) c.args.limit c.loop-a.invariant.few
+returns-clause-no_more c = no_more c.args.graph.now c.args.patterns.now c.names-a-end.ensures.graph c.all_valid.ensures.facts c.loop-a.a c.loop-a.pairs.items c.loop-a.invariant.pairs (omega arith) c.args.limit c.loop-a.invariant.few

@@ -1,5 +1,5 @@
 use Rattle.std.proofs.Common.{Contains}
-use Rattle.chase_laws.specs.declared.pattern.Slot.TheVariants.{Entity}
+use Rattle.pair_seed.proofs.Keys.{designated_by}
 use Rattle.pair_seed.proofs.Steps.{gathered_by}
 use Rattle.pair_seed.proofs.gather.gather_type.Goals as goal
 
@@ -8,4 +8,4 @@ gather-requires-clause-above c = λ b h. ((c.above-bs.ensures.exact b).0 h).1
 
 pub returns : goal.returns
 returns c = gathered_by c.args.graph.now c.args.pattern.now c.args.a c.args.near.now.items _ (λ b. Contains c.above-bs.result.now b) _ c.in_ok-gather.ensures
-    (λ b mark above paired. (c.above-bs.ensures.exact b).1 ((c.with_type.ensures.exact b).1 (paired.right (Entity c.designated.result) c.designated.ensures).1, above))
+    (λ b mark above paired. (c.above-bs.ensures.exact b).1 ((c.with_type.ensures.exact b).1 (designated_by c.args.graph.now c.args.pattern.now c.designated_type.result b c.designated_type.ensures paired.right).1, above))

@@ -4,16 +4,16 @@ use Rattle.paired_search.proofs.Moves.{match_there, match_back, ready, begins}
 use Rattle.paired_search.proofs.all_keys.search_key.Goals as goal
 
 pub search_placed-requires-clause-ready : goal.search_placed-requires-clause-ready
-search_placed-requires-clause-ready c = ready c.args.pattern.now c.args.plan.now c.pattern_facts.ensures c.requires
+search_placed-requires-clause-ready c = ready c.args.pattern.now c.args.plan.now c.slots.ensures.facts c.requires
 
 pub search_placed-requires-clause-begins : goal.search_placed-requires-clause-begins
-search_placed-requires-clause-begins c = begins c.args.pattern.now c.args.plan.now c.pattern_facts.ensures c.requires
+search_placed-requires-clause-begins c = begins c.args.pattern.now c.args.plan.now c.slots.ensures.facts c.requires
 
 pub returns-in-None-clause-none : goal.returns-in-None-clause-none
 returns-in-None-clause-none c = λ v w x.
-    let back = match_back c.args.graph.now c.args.pattern.now c.args.plan.now (same_by c.args.view.now.pairs) c.args.a c.args.b v w c.pattern_facts.ensures c.requires x in
+    let back = match_back c.args.graph.now c.args.pattern.now c.args.plan.now (same_by c.args.view.now.pairs) c.args.a c.args.b v w c.slots.ensures.facts c.requires x in
     c.in-None.ensures.none back.0 back.1 back.2
 
 pub returns-in-Some-clause-found : goal.returns-in-Some-clause-found
 returns-in-Some-clause-found c =
-    match_there c.args.graph.now c.args.pattern.now c.args.plan.now (same_by c.args.view.now.pairs) c.args.a c.args.b c.in-Some.placed.0 c.in-Some.placed.1 c.by_slots.result c.by_slots-in-Some.result c.pattern_facts.ensures c.requires c.by_slots.ensures c.by_slots-in-Some.ensures c.in-Some.ensures.found
+    match_there c.args.graph.now c.args.pattern.now c.args.plan.now (same_by c.args.view.now.pairs) c.args.a c.args.b c.in-Some.placed.0 c.in-Some.placed.1 c.by_slots.result c.by_slots-in-Some.result c.slots.ensures.facts c.requires c.by_slots.ensures c.by_slots-in-Some.ensures c.in-Some.ensures.found

@@ -1,7 +1,7 @@
 -- Each turn is two events, and leaves less to do.
 use Rattle.std.proofs.Common.{List, ◌++◌, [], sym, ◌∙◌, ap, refl, subst, append-nil, append_assoc}
 use Rattle.chase_laws.specs.Core.{Event, Run, ListsNear}
-use Rattle.chase_core.specs.Setup.{Prepared}
+use Rattle.chase_core.specs.Setup.{Preparation}
 use Rattle.chase_core.specs.Running.{Running, state_in}
 use Rattle.chase_core.specs.Settling.{IsFoundBy}
 use Rattle.chase_core.proofs.Draining.{CoreLaw, right, landed, goes_on, less, two_more, finished, one_more}
@@ -19,7 +19,7 @@ loop-ticket-init c = record {
 }
 
 pub settle-requires-clause-view : goal.settle-requires-clause-view
-settle-requires-clause-view c = subst (λ (S : Prepared). ListsNear S.task c.in-Some.ticket.a c.in-Some.ticket.b c.take.new.view.pairs) (sym c.in-Some.ensures.setup) c.in-Some.ensures.near
+settle-requires-clause-view c = subst (λ (S : Preparation). ListsNear S.task c.in-Some.ticket.a c.in-Some.ticket.b c.take.new.view.pairs) (sym c.in-Some.ensures.setup) c.in-Some.ensures.near
 
 pub settle-requires-clause-outcome : goal.settle-requires-clause-outcome
 settle-requires-clause-outcome c =
@@ -28,7 +28,7 @@ settle-requires-clause-outcome c =
     let old = c.loop-ticket.self in
     let mid = c.take.new.self in
     let view = c.take.new.view.pairs in
-    let near = subst (λ (S : Prepared). ListsNear S.task c.in-Some.ticket.a c.in-Some.ticket.b view) (sym e.setup) e.near in
+    let near = subst (λ (S : Preparation). ListsNear S.task c.in-Some.ticket.a c.in-Some.ticket.b view) (sym e.setup) e.near in
     right law old mid c.in-Some.ticket c.loop-ticket.invariant.running e.setup e.book e.takes view c.outcome_of-outcome.result near e.present
     (subst (λ (C : Running). IsFoundBy C.setup.task c.in-Some.ticket view c.outcome_of-outcome.result) c.self.view_is c.outcome_of-outcome.ensures)
 
@@ -59,9 +59,9 @@ loop-ticket-preserved c =
       woken_room = c.settle.ensures.woken_room ∙ v.woken_room;
       running = c.holds-in-Some.ensures.running;
       landed = landed law old mid t v.running e.setup e.book e.takes new view found answer v.landed s;
-      run = subst (λ (S : Prepared). (events : List Event) × Run S.task (state_in c.args.self.now) events (state_in new)) v.setup
+      run = subst (λ (S : Preparation). (events : List Event) × Run S.task (state_in c.args.self.now) events (state_in new)) v.setup
           (two_more law old mid t v.running e.setup e.book e.takes new view found answer s (state_in c.args.self.now)
-          (subst (λ (S : Prepared). (events : List Event) × Run S.task (state_in c.args.self.now) events (state_in old)) (sym v.setup) v.run));
+          (subst (λ (S : Preparation). (events : List Event) × Run S.task (state_in c.args.self.now) events (state_in old)) (sym v.setup) v.run));
       grows = (v.grows.0 ++ more.0, more.1 ∙ ap (λ xs. xs ++ more.0) v.grows.1 ∙ append_assoc c.args.self.now.book.journal v.grows.0 more.0);
     }
 
@@ -71,6 +71,6 @@ returns-clause-finished c = finished c.loop-ticket.self c.take.new.self c.holds-
 pub returns-clause-run : goal.returns-clause-run
 returns-clause-run c =
     let v = c.loop-ticket.invariant in
-    subst (λ (S : Prepared). (events : List Event) × Run S.task (state_in c.args.self.now) events (state_in c.take.new.self)) v.setup
+    subst (λ (S : Preparation). (events : List Event) × Run S.task (state_in c.args.self.now) events (state_in c.take.new.self)) v.setup
     (one_more c.loop-ticket.self c.take.new.self c.holds-2.ensures.running v.landed c.in_default.ensures.takes (state_in c.args.self.now)
-    (subst (λ (S : Prepared). (events : List Event) × Run S.task (state_in c.args.self.now) events (state_in c.loop-ticket.self)) (sym v.setup) v.run))
+    (subst (λ (S : Preparation). (events : List Event) × Run S.task (state_in c.args.self.now) events (state_in c.loop-ticket.self)) (sym v.setup) v.run))

@@ -1,13 +1,7 @@
 -- The parts are those of the task.
-use Rattle.std.proofs.Common.{subst, ◌∙◌, ap, min}
+use Rattle.std.proofs.Common.{subst, ◌<◌, ◌∙◌, ap, sym, min}
 use Rattle.chase_core.specs.Setup.{IsMost}
-use Rattle.chase_core.proofs.Plans.{radii_of}
 use Rattle.chase_core.proofs.setup.Setup.new.Goals as goal
-
-pub build-requires : goal.build-requires
-build-requires c = record {
-  radii = rw (c.deref-3.ensures.value, c.deref-4.ensures.value) (radii_of c.args.patterns.items c.in_ok-plans.plans.items (rw c.deref-2.ensures.value at c.in_ok-plans.ensures));
-}
 
 pub invariant_of-result : goal.invariant_of-result
 invariant_of-result c =
@@ -16,7 +10,7 @@ invariant_of-result c =
     record {
       task = record {
         graph = c.names-names.ensures.graph;
-        patterns = rw c.deref.ensures.value at c.are_valid.ensures;
+        patterns = rw c.deref.ensures.value at c.all_valid.ensures.valid;
         named = c.requires.named;
         able = c.requires.able;
       };
@@ -27,8 +21,15 @@ invariant_of-result c =
       near = record { one_each = c.in_ok-near.ensures.count; exact = rw c.deref-3.ensures.value at c.in_ok-near.ensures.near };
       widest = record {
         most = c.most_near.result;
-        is_most = subst (λ ps. IsMost c.in_ok-near.near.near ps c.most_near.result) c.deref-6.ensures.value c.most_near.ensures;
+        is_most = subst (λ ps. IsMost c.in_ok-near.near.near ps c.most_near.result) c.deref-5.ensures.value c.most_near.ensures;
         least = c.min-widest.ensures ∙ ap (min c.most_near.result) (c.from.ensures ∙ c.names-names.ensures.names);
       };
-      listed = rw c.deref-5.ensures.value at c.in_ok-ends.ensures;
+      by_end =
+          let count = c.names-names.ensures.names in
+          let exact = rw c.deref-4.ensures.value at c.in_ok-ends.ensures.exact in
+          record {
+            one_each = c.in_ok-ends.ensures.one_each ∙ count;
+            ascending = λ e h. c.in_ok-ends.ensures.ascending e (subst (λ n. e < n) (sym count) h);
+            exact = λ e p h. exact e p (subst (λ n. e < n) (sym count) h);
+          };
     }

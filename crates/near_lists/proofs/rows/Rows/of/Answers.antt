@@ -1,8 +1,12 @@
 use Rattle.std.proofs.Common.{ap, sym, ◌∙◌, arith, length, List, ℕ, ◌<◌, ◌+◌}
 use Rattle.std.proofs.lemmas.List.{get_or_default}
-use Rattle.near_lists.specs.Lists.{list_at}
+use Rattle.list_pool.specs.Pool.{list_at}
 use Rattle.near_lists.proofs.Ranges.{length-cut, list_at-cut, within}
 use Rattle.near_lists.proofs.rows.Rows.of.Goals as goal
+
+pub overflow_add-list : goal.overflow_add-list
+overflow_add-list c =
+    omega (arith, length-cut c.self.inside.starts.items c.self.inside.items.items c.self.invariant.some, ap (λ (ls : List (List ℕ)). length ls) c.self.view_is, c.requires, c.self.inside.starts.ok.0, c.self.inside.starts.small)
 
 pub index-start-requires : goal.index-start-requires
 index-start-requires c = omega (arith, length-cut c.self.inside.starts.items c.self.inside.items.items c.self.invariant.some, ap (λ (ls : List (List ℕ)). length ls) c.self.view_is, c.requires, c.self.inside.starts.ok.0)
