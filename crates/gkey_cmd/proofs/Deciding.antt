@@ -7,10 +7,10 @@ use Rattle.gk_base.specs.declared.term.Triple.{Triple}
 use Rattle.gk_io.specs.Files.{bytes_of}
 use Rattle.key_file.specs.KeyShape.{KeyShape}
 use Rattle.gkey_cmd.specs.Commands.{Wanted, Matching, files_of}
-use Rattle.gkey_cmd.specs.Reading.{NamedFiles, IsAccepted, GraphSays, KeysSay, IsRefusedSo, AllAccepted, FirstRefused, Refusal, InGraph, InKeys, MorePairsThan}
+use Rattle.gkey_cmd.specs.Reading.{NamedFiles, IsAccepted, GraphSays, KeyFileSays, IsRefusedSo, AllAccepted, FirstRefused, Refusal, InGraph, InKeys, MorePairsThan}
 use Rattle.nt_reader.proofs.OneFile.{file_once}
 use Rattle.key_lang.proofs.OnceLemmas.{keys_once}
-use Rattle.gkey_cmd.specs.Pieces.{StopsSoon, StopsReading}
+use Rattle.gkey_cmd.specs.Pieces.{StopsSoon, IsReadWithin, KeysLeft, StopsReading}
 use Rattle.gkey_cmd.specs.Matched.{IsReport, HasTooManyPairs}
 use Rattle.gkey_cmd.specs.Written.{HasMorePairs, IsAnswered, IsRefused}
 use Rattle.gkey_cmd.specs.Stops.{MatchEnds}
@@ -53,13 +53,16 @@ module _ {K : Type 0} (shelf : Shelf.Ghosts K) (old mid new : K) (limits : Limit
         (λ files a e. accepted_more limits files before file name a e) so_far.accepted (told_first _ accepted);
   }
 
+  pub keys_left_first : KeysLeft shelf mid new limits name → KeysLeft shelf old new limits name
+  keys_left_first h = (h.0, told_first (λ files. IsSomeAnd (shelf.rest new) (λ rest. IsReadWithin limits.key_bytes (bytes_of files name) rest)) h.1)
+
   -- how far it was read, said of the files as they were told at first
   stops_first : (f : File) (refusal : Refusal) → StopsAt shelf mid new limits f name refusal → StopsAt shelf old new limits f name refusal
   stops_first Graph (InGraph refusal) h = (h.0, told_first (λ files. IsSomeAnd (shelf.rest new) (λ rest. StopsSoon limits (bytes_of files name) rest)) h.1)
   stops_first Graph (InKeys refusal) h = h
   stops_first Graph (MorePairsThan limit) h = h
   stops_first Keys (InGraph refusal) h = h
-  stops_first Keys (InKeys refusal) h = h
+  stops_first Keys (InKeys refusal) h = keys_left_first h
   stops_first Keys (MorePairsThan limit) h = h
 
   -- the next file is not to be had
@@ -104,10 +107,10 @@ module _ {K : Type 0} (shelf : Shelf.Ghosts K) (old new : K) (limits : Limits) (
 
   pub stops_at_keys : (refusal : Refusal) → StopsAt shelf old new limits Keys keys refusal → StopsReading shelf old new (Some (Matching graph keys)) limits refusal
   stops_at_keys (InGraph refusal) h = absurd h
-  stops_at_keys (InKeys refusal) h = tt
+  stops_at_keys (InKeys refusal) h = h
   stops_at_keys (MorePairsThan limit) h = absurd h
 
-module _ (limits : Limits) (files : NamedFiles) (graph keys : List ℕ) (triples : List Triple) (key_list : List KeyShape) (in_graph : GraphSays limits (bytes_of files graph) (Ok triples)) (in_keys : KeysSay limits (bytes_of files keys) (Ok key_list)) where
+module _ (limits : Limits) (files : NamedFiles) (graph keys : List ℕ) (triples : List Triple) (key_list : List KeyShape) (in_graph : GraphSays limits (bytes_of files graph) (Ok triples)) (in_keys : KeyFileSays limits (bytes_of files keys) (Ok key_list)) where
   both_accepted : AllAccepted limits files (files_of (Matching graph keys))
   both_accepted = ((triples, in_graph), ((key_list, in_keys), tt))
 
@@ -131,7 +134,7 @@ module _ (limits : Limits) (files : NamedFiles) (graph keys : List ℕ) (triples
   is_refused h = inr (both_accepted, more_here h, refl)
 
 module _ {K : Type 0} (shelf : Shelf.Ghosts K) (old new : K) (limits : Limits) (graph keys : List ℕ) (triples : List Triple) (key_list : List KeyShape) (count : shelf.faults new ≡ shelf.faults old)
-    (in_graph : IfSome (shelf.held old) (λ files. GraphSays limits (bytes_of files graph) (Ok triples))) (in_keys : IfSome (shelf.held old) (λ files. KeysSay limits (bytes_of files keys) (Ok key_list))) where
+    (in_graph : IfSome (shelf.held old) (λ files. GraphSays limits (bytes_of files graph) (Ok triples))) (in_keys : IfSome (shelf.held old) (λ files. KeyFileSays limits (bytes_of files keys) (Ok key_list))) (left : KeysLeft shelf old new limits keys) where
   -- a match that ends so leaves the run so
   pub match_ended : (result : Result (Vec ℕ Global) Ending) → MatchEnds triples key_list limits.pairs result →
       MatchResult result (λ text. Stopped shelf old new (Matching graph keys) limits (Done Given text)) (Stopped shelf old new (Matching graph keys) limits)
@@ -139,6 +142,7 @@ module _ {K : Type 0} (shelf : Shelf.Ghosts K) (old new : K) (limits : Limits) (
     count,
     told_both (shelf.held old) _ _ (λ files. IsAnswered (Some (Matching graph keys)) files limits Given (vec_items text))
         (λ files g k. is_answered limits files graph keys triples key_list g k (vec_items text) h.0 h.1) in_graph in_keys,
+    left,
   )
   match_ended (Err (Refused text)) h = (
     count,
@@ -147,7 +151,7 @@ module _ {K : Type 0} (shelf : Shelf.Ghosts K) (old new : K) (limits : Limits) (
       h.0,
       told_both (shelf.held old) _ _ (λ files. IsRefused (Some (Matching graph keys)) files limits (MorePairsThan limits.pairs))
           (λ files g k. is_refused limits files graph keys triples key_list g k h.1) in_graph in_keys,
-      tt,
+      left,
     ),
   )
   match_ended (Err NoMemory) h = count

@@ -1,26 +1,19 @@
--- What was read so far of a graph: whether it is refused already, and what its reader then has.
-use Rattle.std.proofs.Common.{List, [], ◌∷◌, ◌++◌, ℕ, zero, suc, ◌+◌, ◌-◌, ◌*◌, ◌^◌, ◌<◌, ◌≤◌, true, false, cond, Option, Some, None, IfSome, IsSomeAnd, Result, Ok, Err, IsOk, true≢false, length, take, drop, ◌≡◌, ◌∙◌, refl, sym, ap, ap₂, subst, arith, inl, inr, replicate, append_assoc, append-nil, length-append}
-use Rattle.std.proofs.lemmas.Bool.{cases_Bool}
-use Rattle.std.proofs.lemmas.List.{take-append-drop, take-append-le, length-replicate, nil_from_length}
-use Rattle.std.proofs.lemmas.List.Elements.{All-replicate}
+-- What was read so far of a graph, and what its reader then has.
+use Rattle.std.proofs.Common.{List, [], ◌++◌, ℕ, ◌+◌, ◌-◌, ◌*◌, ◌^◌, ◌<◌, ◌≤◌, Option, Some, None, IfSome, IsSomeAnd, Result, Ok, Err, IsOk, length, take, ◌≡◌, ◌∙◌, refl, sym, ap, ap₂, subst, arith, append_assoc, length-append}
+use Rattle.std.proofs.lemmas.List.{take-append-drop, take-append-le, nil_from_length}
 use Rattle.gk_base.specs.declared.limits.Limits.{Limits}
-use Rattle.gk_base.specs.declared.read_fault.ReadFault.TheVariants.{TooLong}
 use Rattle.gk_base.specs.declared.read_fault.ReadRefusal.{ReadRefusal}
 use Rattle.gk_base.specs.declared.read_fault.ReadStop.{ReadStop}
 use Rattle.gk_base.specs.declared.read_fault.ReadStop.TheVariants.{NoMemory, Refused}
 use Rattle.gk_base.specs.declared.term.Triple.{Triple}
 use Rattle.gk_io.specs.Cause.{Rose}
-use Rattle.gk_io.specs.Files.{bytes_of, Reads}
+use Rattle.gk_io.specs.Files.{bytes_of, TakesNext}
 use Rattle.gk_io.specs.declared.shelf.Shelf
-use Rattle.nt_reader.specs.File.{AreGood, FileSays, Refuses, line_of_next}
-use Rattle.nt_reader.specs.Kept.{Stands, IsStopped, HasRead, FinishSays}
-use Rattle.nt_reader.specs.Lines.{Cut, cut_of, is_line_byte}
-use Rattle.nt_reader.specs.declared.reader.Reader.{Reader}
-use Rattle.nt_reader.proofs.CutLemmas.{cut_append, some_plain}
-use Rattle.nt_reader.proofs.FileLemmas.{long_for_good}
-use Rattle.nt_reader.proofs.OneFile.{file_once}
-use Rattle.nt_reader.proofs.StateLemmas.{all_few, refuses_more}
-use Rattle.gkey_cmd.specs.Feeding.{WereRead, IsOpen, FeedsNext, FeedsAll, GivesRows}
+use Rattle.nt_reader.specs.File.{FileSays, Refuses, IsOpen}
+use Rattle.nt_reader.specs.Reading.{Front, Reading}
+use Rattle.nt_reader.specs.Kept.{IsStopped, HasCome, HasRead, FinishSays}
+use Rattle.nt_reader.proofs.OpenLemmas.{open_front}
+use Rattle.gkey_cmd.specs.Feeding.{WereRead, FeedsNext, FeedsAll, GivesRows}
 use Rattle.gkey_cmd.specs.Rows.{StandFor}
 use Rattle.gkey_cmd.specs.declared.rows.Rows.{Rows}
 use Rattle.gkey_cmd.proofs.NumberedRows.{names_few}
@@ -32,57 +25,6 @@ use Rattle.gkey_cmd.specs.declared.pieces.GraphStop.TheVariants.{Failed, Stopped
 
 -- ---- what is not yet refused
 
--- spaces behind a text end no line
-ended_before_spaces : (bytes : List ℕ) (n : ℕ) → (cut_of (bytes ++ replicate n 0x20)).ended ≡ (cut_of bytes).ended
-ended_before_spaces bytes zero = ap (λ b. (cut_of b).ended) (append-nil bytes)
-ended_before_spaces bytes (suc n) =
-    ap (λ (c : Cut). c.ended)
-    (cut_append bytes (replicate (suc n) 0x20)
-    ∙ some_plain (cut_of bytes) (replicate (suc n) 0x20) (All-replicate (λ b. is_line_byte b ≡ true) (suc n) 0x20 refl) (omega (arith, length-replicate {A = ℕ} (suc n) 0x20)))
-
--- within the limit of bytes no file is too long
-not_long : (limits : Limits) (bytes : List ℕ) (refusal : ReadRefusal) → length bytes ≤ limits.bytes → refusal.fault ≡ TooLong → FileSays limits bytes (Err refusal) → ⊥
-not_long limits bytes refusal within long (inl h) = elim h.refused.why [ inl w ↦ (let e = w.2 in cc) | inr w ↦ (let e = w.3 in cc) ]
-not_long limits bytes refusal within long (inr h) = omega (arith, h.longer)
-
-module _ (limits : Limits) (seen : List ℕ) (triples : List Triple) (within : length seen ≤ limits.bytes) (good : AreGood (cut_of seen).ended triples) (few : length triples ≤ limits.triples) where
-  -- the text filled up with spaces to the limit
-  full : List ℕ
-  full = seen ++ replicate (limits.bytes - length seen) 0x20
-
-  length-full : length full ≡ limits.bytes
-  unfolding full
-  length-full = omega (arith, length-append seen (replicate (limits.bytes - length seen) 0x20), length-replicate {A = ℕ} (limits.bytes - length seen) 0x20)
-
-  late : ReadRefusal
-  late = record { line = line_of_next full 0x20; fault = TooLong }
-
-  -- one byte more is too many
-  long_later : Refuses limits (full ++ 0x20 ∷ []) late
-  unfolding full late
-  long_later =
-      long_for_good limits full [] 0x20 triples late length-full
-      (subst (λ (l : List (List ℕ)). AreGood l triples) (sym (ended_before_spaces seen (limits.bytes - length seen))) good) few refl refl
-
-  -- a text whose lines are good so far is not yet refused, since it may go on with spaces
-  pub open_so_far : IsOpen limits seen
-  unfolding full late
-  open_so_far = λ refusal h.
-      let more : List ℕ = replicate (limits.bytes - length seen) 0x20 ++ 0x20 ∷ [] in
-      let whole : seen ++ more ≡ (full ++ 0x20 ∷ []) ++ [] = sym (append_assoc seen (replicate (limits.bytes - length seen) 0x20) (0x20 ∷ [])) ∙ sym (append-nil (full ++ 0x20 ∷ [])) in
-      let same : Err refusal ≡ Err late = file_once limits (seen ++ more) (Err refusal) (Err late) (h.always more) (subst (λ b. FileSays limits b (Err late)) (sym whole) (long_later.always [])) in
-      let long : refusal.fault ≡ TooLong = cc in
-      not_long limits seen refusal within long (subst (λ b. FileSays limits b (Err refusal)) (append-nil seen) (h.always []))
-
-pub nothing_open : (limits : Limits) → IsOpen limits []
-unfolding cut_of
-nothing_open limits = open_so_far limits [] [] (omega arith) (record { answers = []; each = tt; have = refl }) (omega arith)
-
--- nor is a front of it
-pub open_front : (limits : Limits) (bytes : List ℕ) → IsOpen limits bytes → (n : ℕ) → IsOpen limits (take n bytes)
-open_front limits bytes h n = λ refusal r.
-    h refusal (subst (λ b. Refuses limits b refusal) (take-append-drop n bytes) (refuses_more limits (take n bytes) (drop n bytes) refusal r))
-
 -- what is refused with its last piece is not refused without it
 pub open_before : (limits : Limits) (seen piece : List ℕ) → IsOpen limits seen → length piece ≤ 65536 →
     (n : ℕ) → n + 65536 ≤ length (seen ++ piece) → IsOpen limits (take n (seen ++ piece))
@@ -92,30 +34,19 @@ open_before limits seen piece h few n long =
 
 -- ---- readers
 
--- a reader that once was refused does not take a piece
-pub was_running : {A : Type 0} (reader : Reader) (result : Result A ReadStop) (x : A) → (reader.running ≡ false → result ≡ Err reader.stop) → result ≡ Ok x → reader.running ≡ true
-was_running reader result x again ok = elim (cases_Bool reader.running) [
-  | inl h ↦ h
-  | inr h ↦ absurd (let e = again h in cc)
-]
+-- a reader that was stopped so stopped at what it has read
+pub stopped_by : (reading : Reading) (stop : ReadStop) → reading.so_far ≡ Err stop → (taken : List Triple) (bytes : List ℕ) → HasRead reading taken bytes → IsStopped reading.limits bytes stop
+stopped_by reading stop e taken bytes h = subst (λ (r : Result Front ReadStop). HasCome reading.limits r taken bytes) e h
 
-pub not_running : (A : Type 0) (reader : Reader) (stop : ReadStop) → (reader.running ≡ true → IsOk {T = A} (Err stop)) → reader.running ≡ false
-not_running A reader stop h = elim (cases_Bool reader.running) [
-  | inl k ↦ absurd (true≢false (sym (h k)))
-  | inr k ↦ k
-]
+-- a reader that took a piece had not stopped
+pub was_running : {A : Type 0} (so_far : Result Front ReadStop) (result : Result A ReadStop) (x : A) → ((stop : ReadStop) → so_far ≡ Err stop → result ≡ Err stop) → result ≡ Ok x → IsOk so_far
+was_running (Ok front) result x again ok = refl
+was_running (Err stop) result x again ok = absurd (let e = again stop refl in cc)
 
-pub standing : (reader : Reader) (taken : List Triple) (bytes : List ℕ) → reader.running ≡ true → HasRead reader taken bytes → Stands reader.limits reader.state taken bytes
-standing reader taken bytes e h = subst (λ b. cond b (Stands reader.limits reader.state taken bytes) (IsStopped reader.limits bytes reader.stop)) e h
-
-pub stopped_by : (reader : Reader) (stop : ReadStop) → reader.running ≡ false → stop ≡ reader.stop → (taken : List Triple) (bytes : List ℕ) → HasRead reader taken bytes → IsStopped reader.limits bytes stop
-stopped_by reader stop e s taken bytes h =
-    subst (IsStopped reader.limits bytes) (sym s) (subst (λ b. cond b (Stands reader.limits reader.state taken bytes) (IsStopped reader.limits bytes reader.stop)) e h)
-
-pub open_running : (reader : Reader) (taken : List Triple) (bytes : List ℕ) → reader.running ≡ true → HasRead reader taken bytes → IsOpen reader.limits bytes
-open_running reader taken bytes e h =
-    let s = standing reader taken bytes e h in
-    open_so_far reader.limits bytes (taken ++ reader.state.triples) s.within s.good (all_few reader.limits reader.state taken bytes s)
+-- of the triples that may come, a running reader has given no more
+came_few : (limits : Limits) (come : Result Front ReadStop) (taken : List Triple) (seen : List ℕ) → IsOk come → HasCome limits come taken seen → length taken ≤ limits.triples
+came_few limits (Ok front) taken seen k h = omega (arith, h.room)
+came_few limits (Err stop) taken seen k h = absurd (cc)
 
 -- ---- what a shelf tells of its bytes
 
@@ -147,14 +78,14 @@ module _ {K : Type 0} (shelf : Shelf.Ghosts K) where
 -- ---- one piece
 
 -- what a read took is a piece of the file
-pub piece_read : (before after : Option (List ℕ)) (room n : ℕ) (buf : List ℕ) → IfSome before (λ old. IsSomeAnd after (λ new. Reads room n old new buf)) →
+pub piece_read : (before after : Option (List ℕ)) (room n : ℕ) (buf : List ℕ) → IfSome before (λ old. IsSomeAnd after (λ new. TakesNext room n old new buf)) →
     IfSome before (λ all. IsSomeAnd after (λ rest. all ≡ take n buf ++ rest))
 piece_read None after room n buf h = tt
 piece_read (Some old) None room n buf h = h
 piece_read (Some old) (Some new) room n buf h = sym (take-append-drop n old) ∙ ap₂ (λ (a b : List ℕ). a ++ b) (sym h.bytes) (sym h.rest)
 
 -- a read that took nothing was at the end
-pub nothing_read : (before after : Option (List ℕ)) (room n : ℕ) (buf : List ℕ) → 0 < room → IfSome before (λ old. IsSomeAnd after (λ new. Reads room n old new buf)) →
+pub nothing_read : (before after : Option (List ℕ)) (room n : ℕ) (buf : List ℕ) → 0 < room → IfSome before (λ old. IsSomeAnd after (λ new. TakesNext room n old new buf)) →
     n ≡ 0 → IfSome before (λ all. all ≡ [])
 nothing_read None after room n buf some h e = tt
 nothing_read (Some old) None room n buf some h e = absurd h
@@ -163,14 +94,31 @@ nothing_read (Some old) (Some new) room n buf some h e = (h.nothing_at_end some)
 -- ---- the loop
 
 -- what was read, fed and numbered so far
-pub record HasFed {K : Type 0} (shelf : Shelf.Ghosts K) (old now : K) (limits : Limits) (reader : Reader) (rows : Rows) (taken : List Triple) (seen : List ℕ) : Type 0 where
+pub record HasFed {K : Type 0} (shelf : Shelf.Ghosts K) (old now : K) (limits : Limits) (reader : Reading) (rows : Rows) (taken : List Triple) (seen : List ℕ) : Type 0 where
   pub read : WereRead shelf old now seen
   pub has : HasRead reader taken seen
   pub stand : StandFor rows taken
   pub same : reader.limits ≡ limits
   pub not_refused : IsOpen limits seen
 
-module _ {K : Type 0} (shelf : Shelf.Ghosts K) (old mid new : K) (limits : Limits) (room : ℕ) (before after : Reader) (rows : Rows) (taken : List Triple) (seen : List ℕ)
+-- how many bytes a reader may still take
+abbrev pub left_of : ℕ → Result Front ReadStop → ℕ
+left_of most (Ok front) = most - front.bytes
+left_of most (Err stop) = 0
+
+fewer : (limits later : Limits) (before after : Result Front ReadStop) (taken more : List Triple) (seen piece : List ℕ) → later ≡ limits → IsOk before → IsOk after →
+    HasCome limits before taken seen → HasCome later after more (seen ++ piece) → 0 < length piece → left_of later.bytes after < left_of limits.bytes before
+fewer limits later (Ok b) (Ok a) taken more seen piece same ok still h k some =
+    omega (arith, ap (λ (l : Limits). l.bytes) same, h.count, k.count, k.within, length-append seen piece)
+fewer limits later (Err stop) after taken more seen piece same ok still h k some = absurd (cc)
+fewer limits later (Ok b) (Err stop) taken more seen piece same ok still h k some = absurd (cc)
+
+-- after a piece they are fewer
+pub fewer_left : (before after : Reading) (taken more : List Triple) (seen piece : List ℕ) → after.limits ≡ before.limits → IsOk before.so_far → IsOk after.so_far →
+    HasRead before taken seen → HasRead after more (seen ++ piece) → 0 < length piece → left_of after.limits.bytes after.so_far < left_of before.limits.bytes before.so_far
+fewer_left before after taken more seen piece same ok still h k some = fewer before.limits after.limits before.so_far after.so_far taken more seen piece same ok still h k some
+
+module _ {K : Type 0} (shelf : Shelf.Ghosts K) (old mid new : K) (limits : Limits) (room : ℕ) (before after : Reading) (rows : Rows) (taken : List Triple) (seen : List ℕ)
     (so_far : HasFed shelf old mid limits before rows taken seen) (count : shelf.faults mid ≡ shelf.faults old) (same : after.limits ≡ before.limits) where
   -- one piece more
   pub fed_more : (n : ℕ) (next : FeedsNext shelf mid new room before after (Ok n)) → HasFed shelf old new limits after rows taken (seen ++ next.0)
@@ -180,7 +128,7 @@ module _ {K : Type 0} (shelf : Shelf.Ghosts K) (old mid new : K) (limits : Limit
         has = has;
         stand = so_far.stand;
         same = same ∙ so_far.same;
-        not_refused = subst (λ l. IsOpen l (seen ++ next.0)) (same ∙ so_far.same) (open_running after taken (seen ++ next.0) next.4 has);
+        not_refused = subst (λ l. IsOpen l (seen ++ next.0)) so_far.same (next.3 taken seen so_far.has);
       }
 
   -- the file is not read on
@@ -198,7 +146,7 @@ module _ {K : Type 0} (shelf : Shelf.Ghosts K) (old mid new : K) (limits : Limit
       )
 
 -- the triples that were taken are numbered
-pub fed_taken : {K : Type 0} (shelf : Shelf.Ghosts K) (old now : K) (limits : Limits) (before after : Reader) (rows more : Rows) (taken triples : List Triple) (seen : List ℕ) →
+pub fed_taken : {K : Type 0} (shelf : Shelf.Ghosts K) (old now : K) (limits : Limits) (before after : Reading) (rows more : Rows) (taken triples : List Triple) (seen : List ℕ) →
     HasFed shelf old now limits before rows taken seen → after.limits ≡ before.limits →
     ((done : List Triple) (bytes : List ℕ) → HasRead before done bytes → HasRead after (done ++ triples) bytes) →
     ((done : List Triple) → StandFor rows done → StandFor more (done ++ triples)) → HasFed shelf old now limits after more (taken ++ triples) seen
@@ -211,17 +159,16 @@ fed_taken shelf old now limits before after rows more taken triples seen h same 
 }
 
 -- the names with those of the triples that were taken are few
-pub taken_few : (reader : Reader) (rows : Rows) (taken triples : List Triple) (seen : List ℕ) → reader.running ≡ true → reader.limits.triples ≤ 2 ^ 22 →
+pub taken_few : (reader : Reading) (rows : Rows) (taken triples : List Triple) (seen : List ℕ) → IsOk reader.so_far → reader.limits.triples ≤ 2 ^ 22 →
     StandFor rows taken → HasRead reader (taken ++ triples) seen → length rows.names + 3 * length triples < 2 ^ 32
 taken_few reader rows taken triples seen running few stand h =
-    let s = standing reader (taken ++ triples) seen running h in
-    let a = s.room in
+    let a = came_few reader.limits reader.so_far (taken ++ triples) seen running h in
     let b = length-append taken triples in
     let n = names_few rows taken stand in
     omega arith
 
 -- the file was read to its end
-pub fed_all : {K : Type 0} (shelf : Shelf.Ghosts K) (old mid new : K) (limits : Limits) (room n : ℕ) (before after taker : Reader) (rows more : Rows) (taken triples : List Triple) (seen : List ℕ) →
+pub fed_all : {K : Type 0} (shelf : Shelf.Ghosts K) (old mid new : K) (limits : Limits) (room n : ℕ) (before after taker : Reading) (rows more : Rows) (taken triples : List Triple) (seen : List ℕ) →
     HasFed shelf old mid limits before rows taken seen → shelf.faults mid ≡ shelf.faults old → (next : FeedsNext shelf mid new room before after (Ok n)) → n ≡ 0 →
     HasFed shelf old new limits taker more (taken ++ triples) (seen ++ next.0) → FeedsAll {A = Unit {0}} shelf old new limits taker more (Ok tt)
 fed_all shelf old mid new limits room n before after taker rows more taken triples seen h count next z fed = (
@@ -230,7 +177,7 @@ fed_all shelf old mid new limits room n before after taker rows more taken tripl
     taken ++ triples,
     seen ++ next.0,
     fed.read,
-    all_fed (shelf.rest old) (shelf.rest mid) seen next.0 h.read (next.5 z) (sym next.2 ∙ z),
+    all_fed (shelf.rest old) (shelf.rest mid) seen next.0 h.read (next.6 z) (sym next.2 ∙ z),
     fed.not_refused,
     fed.has,
     fed.stand,
@@ -238,7 +185,7 @@ fed_all shelf old mid new limits room n before after taker rows more taken tripl
 )
 
 -- memory ran out
-pub fed_no_memory : {K : Type 0} (shelf : Shelf.Ghosts K) (old now : K) (limits : Limits) (reader after : Reader) (rows left : Rows) (taken : List Triple) (seen : List ℕ) →
+pub fed_no_memory : {K : Type 0} (shelf : Shelf.Ghosts K) (old now : K) (limits : Limits) (reader after : Reading) (rows left : Rows) (taken : List Triple) (seen : List ℕ) →
     HasFed shelf old now limits reader rows taken seen → shelf.faults now ≡ shelf.faults old → FeedsAll {A = Unit {0}} shelf old now limits after left (Err (Stopped NoMemory))
 fed_no_memory shelf old now limits reader after rows left taken seen h count = (count, (seen, h.read, tt, (λ n le. open_front limits seen h.not_refused n)))
 
@@ -261,7 +208,7 @@ stops_soon limits bytes gone None h k = k
 stops_soon limits bytes gone (Some rest) h k = record { gone = gone; whole = k; soon = λ n refusal le. h n le refusal }
 
 -- at its end the file has the triples that were taken and the last ones
-pub finish_says : (reader : Reader) (last : List Triple) (limits : Limits) (taken : List Triple) (bytes : List ℕ) → reader.limits ≡ limits → HasRead reader taken bytes →
+pub finish_says : (reader : Reading) (last : List Triple) (limits : Limits) (taken : List Triple) (bytes : List ℕ) → reader.limits ≡ limits → HasRead reader taken bytes →
     ((done : List Triple) (seen : List ℕ) → HasRead reader done seen → FinishSays reader.limits done seen (Ok last)) → FileSays limits bytes (Ok (taken ++ last))
 finish_says reader last limits taken bytes e h says = subst (λ l. FileSays l bytes (Ok (taken ++ last))) e (says taken bytes h)
 
@@ -276,7 +223,7 @@ module _ {K : Type 0} (shelf : Shelf.Ghosts K) (old mid new : K) (limits : Limit
   )
 
   -- it was not read to its end
-  pub gives_no_more : (stop : GraphStop) (seen : Limits) (after : Reader) (rows : Rows) → seen ≡ limits → FeedsAll {A = Unit {0}} shelf mid new seen after rows (Err stop) →
+  pub gives_no_more : (stop : GraphStop) (seen : Limits) (after : Reading) (rows : Rows) → seen ≡ limits → FeedsAll {A = Unit {0}} shelf mid new seen after rows (Err stop) →
       GivesRows shelf old new limits name (Err stop)
   gives_no_more Failed seen after rows e h = (subst (λ n. Rose n (shelf.faults new)) count h.0, asked, h.1)
   gives_no_more (Stopped NoMemory) seen after rows e h = h.0 ∙ count
@@ -289,7 +236,7 @@ module _ {K : Type 0} (shelf : Shelf.Ghosts K) (old mid new : K) (limits : Limit
       )
 
   -- it was read to its end, and then refused
-  pub gives_no_rows : (stop : ReadStop) (seen : Limits) (after : Reader) (rows : Rows) → seen ≡ limits → after.limits ≡ seen → FeedsAll {A = Unit {0}} shelf mid new seen after rows (Ok tt) →
+  pub gives_no_rows : (stop : ReadStop) (seen : Limits) (after : Reading) (rows : Rows) → seen ≡ limits → after.limits ≡ seen → FeedsAll {A = Unit {0}} shelf mid new seen after rows (Ok tt) →
       ((taken : List Triple) (bytes : List ℕ) → HasRead after taken bytes → FinishSays after.limits taken bytes (Err stop)) → GivesRows shelf old new limits name (Err (Stopped stop))
   gives_no_rows NoMemory seen after rows e same h says = h.0 ∙ count
   gives_no_rows (Refused refusal) seen after rows e same h says =
@@ -301,7 +248,7 @@ module _ {K : Type 0} (shelf : Shelf.Ghosts K) (old mid new : K) (limits : Limit
         graph_stops gone h.1.2 (λ n le. open_front limits gone (subst (λ l. IsOpen l gone) e h.1.4) n),
       )
 
-  module _ (triples : List Triple) (seen : Limits) (after : Reader) (rows : Rows) (e : seen ≡ limits) (same : after.limits ≡ seen) (h : FeedsAll {A = Unit {0}} shelf mid new seen after rows (Ok tt))
+  module _ (triples : List Triple) (seen : Limits) (after : Reading) (rows : Rows) (e : seen ≡ limits) (same : after.limits ≡ seen) (h : FeedsAll {A = Unit {0}} shelf mid new seen after rows (Ok tt))
       (says : FileSays limits h.1.1 (Ok (h.1.0 ++ triples))) where
     -- the last triples are few
     pub last_few : limits.triples ≤ 2 ^ 22 → length rows.names + 3 * length triples < 2 ^ 32

@@ -1,8 +1,10 @@
--- What is judged of the first bytes of a key file, up to one more than the limit, is true of the file.
-use Rattle.std.proofs.Common.{List, ℕ, Option, Some, None, IfSome, Result, Ok, Err, if◌then◌else◌, ◌≡◌, ◌+◌, ◌<◌, sym, ◌∙◌, ap, ap₂, subst, take, length, slice_index, arith, inl, inr}
+-- What is judged of the first bytes of a key file, up to one more than the limit, is true of the file, and no more of it is
+-- read.
+use Rattle.std.proofs.Common.{List, ◌++◌, ◌≤◌, ℕ, Option, Some, None, IfSome, IsSomeAnd, Result, Ok, Err, if◌then◌else◌, ◌≡◌, ◌+◌, ◌<◌, sym, ◌∙◌, ap, ap₂, subst, take, length, slice_index, arith, inl, inr}
 use Rattle.std.proofs.lemmas.List.{take-take, take_all, length-take-le, get_or-take}
 use Rattle.std.proofs.lemmas.Bool.{cases_lt, lt-ltb, lt-leb}
 use Rattle.gk_io.specs.Files.{bytes_of}
+use Rattle.gkey_cmd.specs.Pieces.{IsReadWithin}
 use Rattle.nt_reader.specs.Lines.{cut_of, lines}
 use Rattle.nt_reader.specs.File.{judged, line_of_next}
 use Rattle.key_file.specs.KeyShape.{KeyShape}
@@ -57,3 +59,15 @@ pub keys_loaded : (held : Option (List (List ℕ × List ℕ))) (limit : ℕ) (n
 keys_loaded None limit name bytes seen answer h e j = tt
 keys_loaded (Some files) limit name bytes seen answer h e j =
     keys_front limit (bytes_of files name) answer (subst (λ xs. KeysSay limit xs answer) (e ∙ h) j)
+
+-- a key file whose first bytes were read is left within one byte of its limit
+pub left_within : (limit : ℕ) (bytes : List ℕ) (rest : Option (List ℕ)) (read : List ℕ) → length read ≤ limit + 1 →
+    IsSomeAnd rest (λ left. read ++ left ≡ bytes) → IsSomeAnd rest (λ left. IsReadWithin limit bytes left)
+left_within limit bytes None read within h = h
+left_within limit bytes (Some left) read within h = record { gone = read; whole = sym h; within = within }
+
+pub keys_left : (asked : Option (List ℕ)) (held : Option (List (List ℕ × List ℕ))) (rest : Option (List ℕ)) (name : List ℕ) (limit : ℕ) (read : List ℕ) →
+    asked ≡ Some name → length read ≤ limit + 1 → IfSome held (λ files. IsSomeAnd rest (λ left. read ++ left ≡ bytes_of files name)) →
+    (asked ≡ Some name) × IfSome held (λ files. IsSomeAnd rest (λ left. IsReadWithin limit (bytes_of files name) left))
+keys_left asked None rest name limit read e within h = (e, tt)
+keys_left asked (Some files) rest name limit read e within h = (e, left_within limit (bytes_of files name) rest read within h)

@@ -9,8 +9,8 @@ use Rattle.chase_laws.specs.Graph.{NumberedGraph}
 use Rattle.chase_laws.specs.Shape.{Shape}
 use Rattle.chase_laws.specs.Chase.{AreSame}
 use Rattle.chase_laws.specs.Candidate.{IsCandidate}
+use Rattle.chase_laws.specs.SameRows.{HasRowsOf}
 use Rattle.chase_laws.specs.Report.{report_text}
-use Rattle.chase_laws.proofs.SameRows.{same_too, candidate_too}
 use Rattle.term_text.specs.CanonicalText.{texts_of}
 use Rattle.pair_seed.specs.Pairs.{HasMoreCandidates}
 use Rattle.pair_seed.specs.Stop.{IsRightStop}
@@ -19,16 +19,24 @@ use Rattle.pair_seed.specs.declared.stop.SeedStop.TheVariants.{NoMemory, TooMany
 use Rattle.match_run.specs.Classes.{AreClasses}
 use Rattle.key_file.specs.KeyShape.{KeyShape}
 use Rattle.key_file.specs.Compile.{patterns_of, shape_of}
-use Rattle.gkey_cmd.specs.Numbered.{names_for, graph_of, AreSameGraph}
+use Rattle.key_file.specs.Numbered.{names_for, graph_of}
+use Rattle.gkey_cmd.specs.Rows.{AreSameGraph}
 use Rattle.gkey_cmd.specs.Matched.{IsReport, HasTooManyPairs}
 use Rattle.gkey_cmd.specs.Stops.{IsRightMatchStop}
 
+-- what the law of more rows says of the same names, and of candidates
+abbrev pub SameLaw : Type 0
+SameLaw = (G F : NumberedGraph) (K : List Shape) → HasRowsOf K G F → HasRowsOf K F G → (a b : ℕ) → AreSame G K a b ↔ AreSame F K a b
+
+abbrev pub CandidateLaw : Type 0
+CandidateLaw = (G F : NumberedGraph) (K : List Shape) → HasRowsOf K G F → (a b : ℕ) → IsCandidate G K a b → IsCandidate F K a b
+
 -- more candidates in one graph are more in the other
-more_too : (G F : NumberedGraph) (K : List Shape) (limit : ℕ) → AreSameGraph K G F → HasMoreCandidates G K limit → HasMoreCandidates F K limit
-more_too G F K limit s h = record {
+more_too : CandidateLaw → (G F : NumberedGraph) (K : List Shape) (limit : ℕ) → AreSameGraph K G F → HasMoreCandidates G K limit → HasMoreCandidates F K limit
+more_too law G F K limit s h = record {
   pairs = h.pairs;
   ascending = h.ascending;
-  candidates = All-weaker (λ x. IsCandidate G K x.0 x.1) (λ x. IsCandidate F K x.0 x.1) (λ x c. candidate_too K G F s.there x.0 x.1 c) h.pairs h.candidates;
+  candidates = All-weaker (λ x. IsCandidate G K x.0 x.1) (λ x. IsCandidate F K x.0 x.1) (λ x c. law G F K s.there x.0 x.1 c) h.pairs h.candidates;
   more = h.more;
 }
 
@@ -41,29 +49,30 @@ module _ (triples : List Triple) (keys : List KeyShape) (G : NumberedGraph) (nam
       P (graph_of (names_for triples keys) triples) (patterns_of (names_for triples keys) keys) (names_for triples keys)
   said P h = subst (λ ns. P (graph_of ns triples) (patterns_of ns keys) ns) are_names (subst (λ k. P (graph_of names triples) k names) are_patterns h)
 
-  same_of : (labels : List ℕ) → AreClasses G K labels → (a b : ℕ) → a < length names → b < length names →
+  same_of : SameLaw → (labels : List ℕ) → AreClasses G K labels → (a b : ℕ) → a < length names → b < length names →
       IsTrue (slice_index labels a == slice_index labels b) ↔ AreSame (graph_of names triples) K a b
-  same_of labels c a b la lb =
+  same_of law labels c a b la lb =
       let n = c.count ∙ has_names in
-      let s = c.same a b (omega arith) (omega arith) in (
-        (λ t. same_too K G (graph_of names triples) built.there a b (s.0 (eqb-true (slice_index labels a) (slice_index labels b) t))),
-        (λ k. eq-eqb (slice_index labels a) (slice_index labels b) (s.1 (same_too K (graph_of names triples) G built.back a b k))),
+      let s = c.same a b (omega arith) (omega arith) in
+      let both = law G (graph_of names triples) K built.there built.back a b in (
+        (λ t. both.0 (s.0 (eqb-true (slice_index labels a) (slice_index labels b) t))),
+        (λ k. eq-eqb (slice_index labels a) (slice_index labels b) (s.1 (both.1 k))),
       )
 
-  pub report_is : (labels text : List ℕ) → AreClasses G K labels → text ≡ report_text (texts_of names) (λ a b. slice_index labels a == slice_index labels b) → IsReport triples keys text
-  report_is labels text c e = said (λ F Q ns. (same : ℕ → ℕ → Bool) × ((a b : ℕ) → a < length ns → b < length ns → IsTrue (same a b) ↔ AreSame F Q a b) × (text ≡ report_text (texts_of ns) same))
-      ((λ a b. slice_index labels a == slice_index labels b), same_of labels c, e)
+  pub report_is : SameLaw → (labels text : List ℕ) → AreClasses G K labels → text ≡ report_text (texts_of names) (λ a b. slice_index labels a == slice_index labels b) → IsReport triples keys text
+  report_is law labels text c e = said (λ F Q ns. (same : ℕ → ℕ → Bool) × ((a b : ℕ) → a < length ns → b < length ns → IsTrue (same a b) ↔ AreSame F Q a b) × (text ≡ report_text (texts_of ns) same))
+      ((λ a b. slice_index labels a == slice_index labels b), same_of law labels c, e)
 
-  pub too_many : (limit : ℕ) → HasMoreCandidates G K limit → HasTooManyPairs triples keys limit
-  too_many limit h = said (λ F Q ns. HasMoreCandidates F Q limit) (more_too G (graph_of names triples) K limit built h)
+  pub too_many : CandidateLaw → (limit : ℕ) → HasMoreCandidates G K limit → HasTooManyPairs triples keys limit
+  too_many law limit h = said (λ F Q ns. HasMoreCandidates F Q limit) (more_too law G (graph_of names triples) K limit built h)
 
-  pub not_too_many : (limit : ℕ) → ¬ (HasMoreCandidates G K limit) → ¬ (HasTooManyPairs triples keys limit)
-  not_too_many limit none_more h = none_more (more_too (graph_of names triples) G K limit (record { there = built.back; back = built.there })
+  pub not_too_many : CandidateLaw → (limit : ℕ) → ¬ (HasMoreCandidates G K limit) → ¬ (HasTooManyPairs triples keys limit)
+  not_too_many law limit none_more h = none_more (more_too law (graph_of names triples) G K limit (record { there = built.back; back = built.there })
       (subst (λ k. HasMoreCandidates (graph_of names triples) k limit) (sym are_patterns) (subst (λ ns. HasMoreCandidates (graph_of ns triples) (patterns_of ns keys) limit) (sym are_names) h)))
 
-  pub right_stop : (limit : ℕ) (stop : SeedStop) → IsRightStop G K limit stop → IsRightMatchStop triples keys limit stop
-  right_stop limit NoMemory h = tt
-  right_stop limit (TooManyPairs found) h = too_many limit h.1
+  pub right_stop : CandidateLaw → (limit : ℕ) (stop : SeedStop) → IsRightStop G K limit stop → IsRightMatchStop triples keys limit stop
+  right_stop law limit NoMemory h = tt
+  right_stop law limit (TooManyPairs found) h = too_many law limit h.1
 
 -- a key file has few patterns
 pub few_patterns : (names : List Term) (keys : List KeyShape) (K : List Shape) → K ≡ patterns_of names keys → length keys ≤ 64 → length K < 2 ^ 32

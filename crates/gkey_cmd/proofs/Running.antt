@@ -1,5 +1,6 @@
 -- What a run leaves, from how it ends.
-use Rattle.std.proofs.Common.{List, [], ◌∷◌, ℕ, Option, Some, None, IfSome, vec_items, Ok, Err, ◌≡◌, ◌≢◌, ◌∙◌, inl, inr, refl, sym, ap, subst, append-nil, arith}
+use Rattle.std.proofs.Common.{List, [], ◌∷◌, ℕ, Option, Some, None, IfSome, IsTrue, vec_items, Ok, Err, ◌==◌, ◌≡◌, ◌≢◌, ◌⊎◌, ◌↔◌, ◌∙◌, inl, inr, refl, sym, ap, subst, append-nil, arith}
+use Rattle.std.specs.List.{list_any}
 use Rattle.gk_base.specs.declared.limits.Limits.{Limits}
 use Rattle.gk_io.specs.Cause.{Rose}
 use Rattle.gk_io.specs.Files.{bytes_of}
@@ -10,10 +11,12 @@ use Rattle.gkey_cmd.specs.Commands.{Wanted, files_of}
 use Rattle.gkey_cmd.specs.Reading.{NamedFiles, IsAccepted, IsRefusedSo, AllAccepted, FirstRefused, Refusal, InGraph, InKeys, MorePairsThan, refused_text}
 use Rattle.nt_reader.proofs.OneFile.{file_once}
 use Rattle.key_lang.proofs.OnceLemmas.{keys_once}
-use Rattle.gkey_cmd.specs.Pieces.{StopsReading}
+use Rattle.gkey_cmd.specs.Pieces.{LeavesFiles, StopsReading}
 use Rattle.gkey_cmd.specs.Sent.{TookAll, TookLess, Sent}
-use Rattle.gkey_cmd.specs.Written.{usage, write_failed, status_of, IsAnswer, IsRefused, AreAccepted, IsAnswered, Written, AsNoCommand, AsRefused, AsAnswered}
-use Rattle.gkey_cmd.specs.Causes.{Caused, Ends}
+use Rattle.gkey_cmd.specs.Written.{usage, out_of_memory, write_failed, status_of, IsAnswer, IsRefused, AreAccepted, IsAnswered, WritesFor, AsNoCommand, AsRefused, AsAnswered}
+use Rattle.gkey_cmd.specs.Files.{read_failed}
+use Rattle.gkey_cmd.specs.Causes.{HasFailed, Caused, IsReportedAs}
+use Rattle.gkey_cmd.specs.Run.{IsRun}
 use Rattle.gkey_cmd.specs.declared.file.File.{File}
 use Rattle.gkey_cmd.specs.declared.file.File.TheVariants.{Graph, Keys}
 use Rattle.gkey_cmd.specs.declared.ending.Answer.{Answer}
@@ -43,11 +46,23 @@ is_answer Given = inl refl
 not_two : (answer : Answer) → status_of answer ≡ 2 → ⊥
 not_two Given e = omega arith
 
+not_three : (answer : Answer) → status_of answer ≡ 3 → ⊥
+not_three Given e = omega arith
+
+not_five : (answer : Answer) → status_of answer ≡ 5 → ⊥
+not_five Given e = omega arith
+
+not_sixty_four : (answer : Answer) → status_of answer ≡ 64 → ⊥
+not_sixty_four Given e = omega arith
+
 not_four : (answer : Answer) → status_of answer ≡ 4 → ⊥
 not_four Given e = omega arith
 
 no_answer : (status other : ℕ) → status ≡ other → 1 ≢ other → 0 ≢ other → IsAnswer status → ⊥
 no_answer status other e one zero h = elim h [ inl k ↦ zero (sym k ∙ e) | inr k ↦ one (sym k ∙ e) ]
+
+no_answer_nor_four : (status other : ℕ) → status ≡ other → 1 ≢ other → 0 ≢ other → 4 ≢ other → IsAnswer status ⊎ (status ≡ 4) → ⊥
+no_answer_nor_four status other e one zero four h = elim h [ inl k ↦ no_answer status other e one zero k | inr k ↦ four (sym k ∙ e) ]
 
 -- ---- a file is accepted, or refused in one way
 
@@ -106,9 +121,9 @@ not_refused limits files command r (inr h) k = k.1 h.1
 module _ {K O E : Type 0} (shelf : Shelf.Ghosts K) (out : Sink.Ghosts O) (err : Sink.Ghosts E) (old new : K) (o o' : O) (e e' : E) (command : Option Wanted) (limits : Limits) (status : ℕ) where
   abbrev pub WritesAll : NamedFiles → Type 0
   WritesAll files = status ≢ 3 → status ≢ 4 → status ≢ 5 →
-      (output error : List ℕ) × Written command files limits status output error × TookAll out o o' output × Sent err e e' error
+      (output error : List ℕ) × WritesFor command files limits status output error × TookAll out o o' output × Sent err e e' error
 
-  pub written_of : (ending : Ending) → Caused shelf old new command limits ending → Ends out err o o' e e' ending status → IfSome (shelf.held old) WritesAll
+  pub written_of : (ending : Ending) → Caused shelf old new command limits ending → IsReportedAs out err o o' e e' ending status → IfSome (shelf.held old) WritesAll
   written_of NoRow c d = told (shelf.held old) _ (λ files n3 n4 n5. ([], usage, AsNoCommand c.0 d.0 refl refl, took_nothing out o o' d.1, d.2))
   written_of (Failed file) c d = told (shelf.held old) _ (λ files n3 n4 n5. absurd (n3 d.0))
   written_of (Refused text) c d = told_more (shelf.held old) (λ files. IsRefused (Some c.0) files limits c.2.1.0) _
@@ -136,7 +151,7 @@ module _ {K O E : Type 0} (shelf : Shelf.Ghosts K) (out : Sink.Ghosts O) (err : 
   NamesRefusal files = (refusal : Refusal) → IsRefused command files limits refusal → ¬ (Rose (shelf.faults old) (shelf.faults new)) →
       status ≢ 5 → (status ≡ 2) × Sent err e e' (refused_text refusal)
 
-  pub refuses_of : (ending : Ending) → Caused shelf old new command limits ending → Ends out err o o' e e' ending status → IfSome (shelf.held old) NamesRefusal
+  pub refuses_of : (ending : Ending) → Caused shelf old new command limits ending → IsReportedAs out err o o' e e' ending status → IfSome (shelf.held old) NamesRefusal
   refuses_of NoRow c d = told (shelf.held old) _ (λ files r h n n5. absurd (subst (λ w. IsRefused w files limits r) c.0 h))
   refuses_of (Failed file) c d = told (shelf.held old) _ (λ files r h n n5. absurd (n c.2.rose))
   refuses_of (Refused text) c d = told_more (shelf.held old) (λ files. IsRefused (Some c.0) files limits c.2.1.0) _
@@ -151,7 +166,7 @@ module _ {K O E : Type 0} (shelf : Shelf.Ghosts K) (out : Sink.Ghosts O) (err : 
   IsAnsweredThen files = AreAccepted command files limits → ¬ (Rose (shelf.faults old) (shelf.faults new)) →
       ¬ (Rose (out.faults o) (out.faults o')) → status ≢ 5 → IsAnswer status
 
-  pub answers_of : (ending : Ending) → Caused shelf old new command limits ending → Ends out err o o' e e' ending status → IfSome (shelf.held old) IsAnsweredThen
+  pub answers_of : (ending : Ending) → Caused shelf old new command limits ending → IsReportedAs out err o o' e e' ending status → IfSome (shelf.held old) IsAnsweredThen
   answers_of NoRow c d = told (shelf.held old) _ (λ files h n m n5. absurd (subst (λ w. AreAccepted w files limits) c.0 h))
   answers_of (Failed file) c d = told (shelf.held old) _ (λ files h n m n5. absurd (n c.2.rose))
   answers_of (Refused text) c d = told_more (shelf.held old) (λ files. IsRefused (Some c.0) files limits c.2.1.0) _
@@ -162,7 +177,7 @@ module _ {K O E : Type 0} (shelf : Shelf.Ghosts K) (out : Sink.Ghosts O) (err : 
     | inr w ↦ absurd (m w.1.rose)
   ])
 
-  pub done_of : (ending : Ending) → Caused shelf old new command limits ending → Ends out err o o' e e' ending status → IsAnswer status →
+  pub done_of : (ending : Ending) → Caused shelf old new command limits ending → IsReportedAs out err o o' e e' ending status → IsAnswer status →
       (e' ≡ e) × ((answer : Answer) × (output : List ℕ) × (status ≡ status_of answer) × TookAll out o o' output
       × IfSome (shelf.held old) (λ files. IsAnswered command files limits answer output))
   done_of NoRow c d h = absurd (no_answer status 64 d.0 (λ k. omega arith) (λ k. omega arith) h)
@@ -182,21 +197,7 @@ module _ {K O E : Type 0} (shelf : Shelf.Ghosts K) (out : Sink.Ghosts O) (err : 
   )
   done_of (Done answer text) c (inr w) h = absurd (no_answer status 4 w.0 (λ k. omega arith) (λ k. omega arith) h)
 
-  pub refused_of : (ending : Ending) → Caused shelf old new command limits ending → Ends out err o o' e e' ending status → status ≡ 2 →
-      (refusal : Refusal) × Sent err e e' (refused_text refusal) × IfSome (shelf.held old) (λ files. IsRefused command files limits refusal)
-  refused_of NoRow c d two = absurd (omega arith)
-  refused_of (Failed file) c d two = absurd (omega arith)
-  refused_of (Refused text) c d two = (
-    c.2.1.0,
-    subst (λ t. Sent err e e' t) c.2.1.1 d.2,
-    told_more (shelf.held old) (λ files. IsRefused (Some c.0) files limits c.2.1.0) _
-        (λ files r. subst (λ w. IsRefused w files limits c.2.1.0) (sym c.1) r) c.2.1.2,
-  )
-  refused_of NoMemory c d two = absurd (omega arith)
-  refused_of (Done answer text) c (inl w) two = absurd (not_two answer (sym w.0 ∙ two))
-  refused_of (Done answer text) c (inr w) two = absurd (let four = w.0 in omega arith)
-
-  pub stops_of : (ending : Ending) → Caused shelf old new command limits ending → Ends out err o o' e e' ending status → status ≡ 2 →
+  pub stops_of : (ending : Ending) → Caused shelf old new command limits ending → IsReportedAs out err o o' e e' ending status → status ≡ 2 →
       (refusal : Refusal) × Sent err e e' (refused_text refusal) × IfSome (shelf.held old) (λ files. IsRefused command files limits refusal)
       × StopsReading shelf old new command limits refusal
   stops_of NoRow c d two = absurd (omega arith)
@@ -212,7 +213,7 @@ module _ {K O E : Type 0} (shelf : Shelf.Ghosts K) (out : Sink.Ghosts O) (err : 
   stops_of (Done answer text) c (inl w) two = absurd (not_two answer (sym w.0 ∙ two))
   stops_of (Done answer text) c (inr w) two = absurd (let four = w.0 in omega arith)
 
-  pub unwritten_of : (ending : Ending) → Caused shelf old new command limits ending → Ends out err o o' e e' ending status → status ≡ 4 →
+  pub unwritten_of : (ending : Ending) → Caused shelf old new command limits ending → IsReportedAs out err o o' e e' ending status → status ≡ 4 →
       Sent err e e' write_failed × ((answer : Answer) × (output : List ℕ) × TookLess out o o' output
       × IfSome (shelf.held old) (λ files. IsAnswered command files limits answer output))
   unwritten_of NoRow c d four = absurd (omega arith)
@@ -230,3 +231,99 @@ module _ {K O E : Type 0} (shelf : Shelf.Ghosts K) (out : Sink.Ghosts O) (err : 
           (λ files a. subst (λ x. IsAnswered x files limits answer (vec_items text)) (sym c.1) a) c.2.1,
     ),
   )
+
+  pub leaves_of : (ending : Ending) → Caused shelf old new command limits ending → IsReportedAs out err o o' e e' ending status → IsAnswer status ⊎ (status ≡ 4) →
+      (wanted : Wanted) × (command ≡ Some wanted) × LeavesFiles shelf old new wanted limits
+  leaves_of NoRow c d h = absurd (no_answer_nor_four status 64 d.0 (λ k. omega arith) (λ k. omega arith) (λ k. omega arith) h)
+  leaves_of (Failed file) c d h = absurd (no_answer_nor_four status 3 d.0 (λ k. omega arith) (λ k. omega arith) (λ k. omega arith) h)
+  leaves_of (Refused text) c d h = absurd (no_answer_nor_four status 2 d.0 (λ k. omega arith) (λ k. omega arith) (λ k. omega arith) h)
+  leaves_of NoMemory c d h = absurd (no_answer_nor_four status 5 d.0 (λ k. omega arith) (λ k. omega arith) (λ k. omega arith) h)
+  leaves_of (Done answer text) c d h = (c.0, c.1, c.2.2)
+
+  pub unread_of : (ending : Ending) → Caused shelf old new command limits ending → IsReportedAs out err o o' e e' ending status → status ≡ 3 →
+      (file : File) × (wanted : Wanted) × (command ≡ Some wanted) × Sent err e e' (read_failed file) × HasFailed shelf old new wanted limits file
+  unread_of NoRow c d three = absurd (omega arith)
+  unread_of (Failed file) c d three = (file, c.0, c.1, d.2, c.2)
+  unread_of (Refused text) c d three = absurd (omega arith)
+  unread_of NoMemory c d three = absurd (omega arith)
+  unread_of (Done answer text) c (inl w) three = absurd (not_three answer (sym w.0 ∙ three))
+  unread_of (Done answer text) c (inr w) three = absurd (let four = w.0 in omega arith)
+
+  pub read_of : (ending : Ending) → Caused shelf old new command limits ending → IsReportedAs out err o o' e e' ending status → status ≢ 3 → shelf.faults new ≡ shelf.faults old
+  read_of NoRow c d n3 = c.1
+  read_of (Failed file) c d n3 = absurd (n3 d.0)
+  read_of (Refused text) c d n3 = c.2.0
+  read_of NoMemory c d n3 = c.2
+  read_of (Done answer text) c d n3 = c.2.0
+
+  pub wrote_of : (ending : Ending) → IsReportedAs out err o o' e e' ending status → status ≢ 4 → out.faults o' ≡ out.faults o
+  wrote_of NoRow d n4 = ap (λ s. out.faults s) d.1
+  wrote_of (Failed file) d n4 = ap (λ s. out.faults s) d.1
+  wrote_of (Refused text) d n4 = ap (λ s. out.faults s) d.1
+  wrote_of NoMemory d n4 = ap (λ s. out.faults s) d.1
+  wrote_of (Done answer text) (inl w) n4 = w.1.count
+  wrote_of (Done answer text) (inr w) n4 = absurd (n4 w.0)
+
+  pub no_memory_of : (ending : Ending) → IsReportedAs out err o o' e e' ending status → status ≡ 5 → Sent err e e' out_of_memory
+  no_memory_of NoRow d five = absurd (let s = d.0 in omega arith)
+  no_memory_of (Failed file) d five = absurd (let s = d.0 in omega arith)
+  no_memory_of (Refused text) d five = absurd (let s = d.0 in omega arith)
+  no_memory_of NoMemory d five = d.2
+  no_memory_of (Done answer text) (inl w) five = absurd (not_five answer (sym w.0 ∙ five))
+  no_memory_of (Done answer text) (inr w) five = absurd (let four = w.0 in omega arith)
+
+  pub no_command_of : (ending : Ending) → Caused shelf old new command limits ending → IsReportedAs out err o o' e e' ending status → (status ≡ 64) ↔ (command ≡ None)
+  no_command_of NoRow c d = ((λ h. c.0), (λ h. d.0))
+  no_command_of (Failed file) c d = ((λ h. absurd (let s = d.0 in omega arith)), (λ h. absurd (let s = c.1 in cc)))
+  no_command_of (Refused text) c d = ((λ h. absurd (let s = d.0 in omega arith)), (λ h. absurd (let s = c.1 in cc)))
+  no_command_of NoMemory c d = ((λ h. absurd (let s = d.0 in omega arith)), (λ h. absurd (let s = c.1 in cc)))
+  no_command_of (Done answer text) c (inl w) = ((λ h. absurd (not_sixty_four answer (sym w.0 ∙ h))), (λ h. absurd (let s = c.1 in cc)))
+  no_command_of (Done answer text) c (inr w) = ((λ h. absurd (let s = w.0 in omega arith)), (λ h. absurd (let s = c.1 in cc)))
+
+  pub usage_of : (ending : Ending) → IsReportedAs out err o o' e e' ending status → status ≡ 64 → Sent err e e' usage
+  usage_of NoRow d h = d.2
+  usage_of (Failed file) d h = absurd (let s = d.0 in omega arith)
+  usage_of (Refused text) d h = absurd (let s = d.0 in omega arith)
+  usage_of NoMemory d h = absurd (let s = d.0 in omega arith)
+  usage_of (Done answer text) (inl w) h = absurd (not_sixty_four answer (sym w.0 ∙ h))
+  usage_of (Done answer text) (inr w) h = absurd (let s = w.0 in omega arith)
+
+  pub untouched_of : (ending : Ending) → IsReportedAs out err o o' e e' ending status → ¬ (IsAnswer status) → status ≢ 4 → o' ≡ o
+  untouched_of NoRow d none n4 = d.1
+  untouched_of (Failed file) d none n4 = d.1
+  untouched_of (Refused text) d none n4 = d.1
+  untouched_of NoMemory d none n4 = d.1
+  untouched_of (Done answer text) (inl w) none n4 = absurd (none (subst IsAnswer (sym w.0) (is_answer answer)))
+  untouched_of (Done answer text) (inr w) none n4 = absurd (n4 w.0)
+
+  abbrev IsOneOf : ℕ → Type 0
+  IsOneOf n = IsTrue (list_any (λ s. s == n) (0 ∷ 1 ∷ 2 ∷ 3 ∷ 4 ∷ 5 ∷ 64 ∷ []))
+
+  pub one_of : (ending : Ending) → IsReportedAs out err o o' e e' ending status → IsOneOf status
+  one_of NoRow d = subst IsOneOf (sym d.0) refl
+  one_of (Failed file) d = subst IsOneOf (sym d.0) refl
+  one_of (Refused text) d = subst IsOneOf (sym d.0) refl
+  one_of NoMemory d = subst IsOneOf (sym d.0) refl
+  one_of (Done Given text) (inl w) = subst IsOneOf (sym w.0) refl
+  one_of (Done answer text) (inr w) = subst IsOneOf (sym w.0) refl
+
+  -- the whole contract
+  pub run_of : (ending : Ending) → Caused shelf old new command limits ending → IsReportedAs out err o o' e e' ending status →
+      IsRun shelf out err command limits old new o o' e e' status
+  run_of ending c d = record {
+    written = written_of ending c d;
+    refuses = refuses_of ending c d;
+    answers = answers_of ending c d;
+    done = done_of ending c d;
+    stops_reading = stops_of ending c d;
+    unread = unread_of ending c d;
+    read = read_of ending c d;
+    unwritten = unwritten_of ending c d;
+    wrote = wrote_of ending d;
+    leaves_files = leaves_of ending c d;
+    no_memory = no_memory_of ending d;
+    no_command = no_command_of ending c d;
+    usage_text = usage_of ending d;
+    untouched = untouched_of ending d;
+    one_of = one_of ending d;
+  }

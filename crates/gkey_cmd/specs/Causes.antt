@@ -6,7 +6,7 @@ use Rattle.gk_io.specs.declared.shelf.Shelf
 use Rattle.gk_io.specs.declared.sink.Sink
 use Rattle.gkey_cmd.specs.Commands.{Wanted, files_of}
 use Rattle.gkey_cmd.specs.Files.{read_failed}
-use Rattle.gkey_cmd.specs.Pieces.{StopsReading, GraphStops}
+use Rattle.gkey_cmd.specs.Pieces.{StopsReading, GraphStops, KeysLeft, LeavesFiles}
 use Rattle.gkey_cmd.specs.Sent.{TookAll, TookLess, Sent}
 use Rattle.gkey_cmd.specs.Reading.{NamedFiles, Refusal, InGraph, InKeys, MorePairsThan, refused_text, IsRefusedSo, AllAccepted}
 use Rattle.gkey_cmd.specs.Written.{usage, out_of_memory, write_failed, status_of, IsRefused, IsAnswered}
@@ -38,6 +38,7 @@ Stopped shelf old new command limits (Refused text) = (shelf.faults new ≡ shel
 Stopped shelf old new command limits NoMemory = shelf.faults new ≡ shelf.faults old
 Stopped shelf old new command limits (Done answer text) = (shelf.faults new ≡ shelf.faults old)
     × IfSome (shelf.held old) (λ files. IsAnswered (Some command) files limits answer (vec_items text))
+    × LeavesFiles shelf old new command limits
 
 -- how a run ends before anything is written
 abbrev pub Caused : {K : Type 0} (shelf : Shelf.Ghosts K) (old new : K) (command : Option Wanted) (limits : Limits) → Ending → Type 0
@@ -50,7 +51,7 @@ StopsAt shelf old new limits Graph name (InGraph refusal) = GraphStops shelf old
 StopsAt shelf old new limits Graph name (InKeys refusal) = ⊥
 StopsAt shelf old new limits Graph name (MorePairsThan limit) = ⊥
 StopsAt shelf old new limits Keys name (InGraph refusal) = ⊥
-StopsAt shelf old new limits Keys name (InKeys refusal) = Unit {0}
+StopsAt shelf old new limits Keys name (InKeys refusal) = KeysLeft shelf old new limits name
 StopsAt shelf old new limits Keys name (MorePairsThan limit) = ⊥
 
 -- One file was read under a name: what it says, or why the run ends at it.
@@ -73,11 +74,11 @@ pub record ReadSoFar {K : Type 0} (shelf : Shelf.Ghosts K) (old mid : K) (limits
   pub accepted : IfSome (shelf.held old) (λ files. AllAccepted limits files before)
 
 -- what is left when an ending was told: the status, what standard output took, and what the error stream was sent
-abbrev pub Ends : {O E : Type 0} (out : Sink.Ghosts O) (err : Sink.Ghosts E) (out_old out_new : O) (err_old err_new : E) → Ending → ℕ → Type 0
-Ends out err o o' e e' NoRow status = (status ≡ 64) × (o' ≡ o) × Sent err e e' usage
-Ends out err o o' e e' (Failed file) status = (status ≡ 3) × (o' ≡ o) × Sent err e e' (read_failed file)
-Ends out err o o' e e' (Refused text) status = (status ≡ 2) × (o' ≡ o) × Sent err e e' (vec_items text)
-Ends out err o o' e e' NoMemory status = (status ≡ 5) × (o' ≡ o) × Sent err e e' out_of_memory
-Ends out err o o' e e' (Done answer text) status =
+abbrev pub IsReportedAs : {O E : Type 0} (out : Sink.Ghosts O) (err : Sink.Ghosts E) (out_old out_new : O) (err_old err_new : E) → Ending → ℕ → Type 0
+IsReportedAs out err o o' e e' NoRow status = (status ≡ 64) × (o' ≡ o) × Sent err e e' usage
+IsReportedAs out err o o' e e' (Failed file) status = (status ≡ 3) × (o' ≡ o) × Sent err e e' (read_failed file)
+IsReportedAs out err o o' e e' (Refused text) status = (status ≡ 2) × (o' ≡ o) × Sent err e e' (vec_items text)
+IsReportedAs out err o o' e e' NoMemory status = (status ≡ 5) × (o' ≡ o) × Sent err e e' out_of_memory
+IsReportedAs out err o o' e e' (Done answer text) status =
     ((status ≡ status_of answer) × TookAll out o o' (vec_items text) × (e' ≡ e))
     ⊎ ((status ≡ 4) × TookLess out o o' (vec_items text) × Sent err e e' write_failed)

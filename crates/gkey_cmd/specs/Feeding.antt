@@ -1,15 +1,14 @@
 -- What the private functions answer that read a graph piece by piece: this project's own words.
-use Rattle.std.specs.Prelude.{List, [], ℕ, true, ◌≡◌, ◌≤◌, ◌+◌, ◌++◌, length, take, Result, Ok, Err, Some, IfSome, IsSomeAnd, IsTrue}
+use Rattle.std.specs.Prelude.{List, [], ℕ, ◌≡◌, ◌≤◌, ◌+◌, ◌++◌, length, take, Result, Ok, Err, IsOk, Some, IfSome, IsSomeAnd, IsTrue}
 use Rattle.gk_base.specs.declared.limits.Limits.{Limits}
-use Rattle.gk_base.specs.declared.read_fault.ReadRefusal.{ReadRefusal}
 use Rattle.gk_base.specs.declared.read_fault.ReadStop.TheVariants.{NoMemory, Refused}
 use Rattle.gk_base.specs.declared.term.Triple.{Triple}
 use Rattle.gk_io.specs.Cause.{Rose}
 use Rattle.gk_io.specs.Files.{bytes_of}
 use Rattle.gk_io.specs.declared.shelf.Shelf
-use Rattle.nt_reader.specs.File.{Refuses}
+use Rattle.nt_reader.specs.File.{IsOpen}
+use Rattle.nt_reader.specs.Reading.{Reading}
 use Rattle.nt_reader.specs.Kept.{HasRead, IsStopped}
-use Rattle.nt_reader.specs.declared.reader.Reader.{Reader}
 use Rattle.gkey_cmd.specs.Pieces.{GraphStops}
 use Rattle.gkey_cmd.specs.Rows.{StandFor}
 use Rattle.gkey_cmd.specs.Reading.{GraphSays}
@@ -25,27 +24,24 @@ WereRead shelf old new gone = IfSome (shelf.rest old) (λ all. IsSomeAnd (shelf.
 abbrev pub AreAll : {K : Type 0} (shelf : Shelf.Ghosts K) (old : K) → List ℕ → Type 0
 AreAll shelf old gone = IfSome (shelf.rest old) (λ all. all ≡ gone)
 
--- a file that begins so is not yet refused
-abbrev pub IsOpen : Limits → List ℕ → Type 0
-IsOpen limits bytes = (refusal : ReadRefusal) → ¬ (Refuses limits bytes refusal)
-
 -- a piece was read and fed
-pub record Feeds {K : Type 0} (shelf : Shelf.Ghosts K) (old new : K) (room : ℕ) (before after : Reader) (piece : List ℕ) : Type 0 where
+pub record Feeds {K : Type 0} (shelf : Shelf.Ghosts K) (old new : K) (room : ℕ) (before after : Reading) (piece : List ℕ) : Type 0 where
   pub count : shelf.faults new ≡ shelf.faults old
   pub read : WereRead shelf old new piece
   pub within : length piece ≤ room
   pub fed : (taken : List Triple) (seen : List ℕ) → HasRead before taken seen → HasRead after taken (seen ++ piece)
 
 -- a piece of so many bytes was read and fed, or why not
-abbrev pub FeedsNext : {K : Type 0} (shelf : Shelf.Ghosts K) (old new : K) (room : ℕ) (before after : Reader) → Result ℕ GraphStop → Type 0
+abbrev pub FeedsNext : {K : Type 0} (shelf : Shelf.Ghosts K) (old new : K) (room : ℕ) (before after : Reading) → Result ℕ GraphStop → Type 0
 FeedsNext shelf old new room before after (Ok n) = (piece : List ℕ) × Feeds shelf old new room before after piece
-    × (n ≡ length piece) × (before.running ≡ true) × (after.running ≡ true) × (n ≡ 0 → AreAll shelf old [])
+    × (n ≡ length piece) × ((taken : List Triple) (seen : List ℕ) → HasRead before taken seen → IsOpen before.limits (seen ++ piece))
+    × IsOk before.so_far × IsOk after.so_far × (n ≡ 0 → AreAll shelf old [])
 FeedsNext shelf old new room before after (Err Failed) = Rose (shelf.faults old) (shelf.faults new) × IsTrue (shelf.bad new)
 FeedsNext shelf old new room before after (Err (Stopped stop)) = (piece : List ℕ) × Feeds shelf old new room before after piece
     × ((taken : List Triple) (bytes : List ℕ) → HasRead after taken bytes → IsStopped after.limits bytes stop)
 
 -- all that was left was read, fed and numbered, or why not
-abbrev pub FeedsAll : {K A : Type 0} (shelf : Shelf.Ghosts K) (old new : K) (limits : Limits) (after : Reader) (rows : Rows) → Result A GraphStop → Type 0
+abbrev pub FeedsAll : {K A : Type 0} (shelf : Shelf.Ghosts K) (old new : K) (limits : Limits) (after : Reading) (rows : Rows) → Result A GraphStop → Type 0
 FeedsAll shelf old new limits after rows (Ok x) = (shelf.faults new ≡ shelf.faults old)
     × ((taken : List Triple) × (gone : List ℕ) × WereRead shelf old new gone × AreAll shelf old gone × IsOpen limits gone
     × HasRead after taken gone × StandFor rows taken)

@@ -1,6 +1,5 @@
 pub mod Files
 pub mod Commands
-pub mod Numbered
 pub mod Rows
 pub mod Matched
 pub mod Reading
@@ -10,3 +9,4 @@ pub mod Sent
 pub mod Written
 pub mod Causes
 pub mod Stops
+pub mod Run

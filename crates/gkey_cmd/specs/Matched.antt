@@ -7,7 +7,7 @@ use Rattle.term_text.specs.CanonicalText.{texts_of}
 use Rattle.pair_seed.specs.Pairs.{HasMoreCandidates}
 use Rattle.key_file.specs.KeyShape.{KeyShape}
 use Rattle.key_file.specs.Compile.{patterns_of}
-use Rattle.gkey_cmd.specs.Numbered.{names_for, graph_of}
+use Rattle.key_file.specs.Numbered.{names_for, graph_of}
 
 -- The report of the chase: a test tells of each two names whether they are the same, and the text prints its classes.
 abbrev pub IsReport : List Triple → List KeyShape → List ℕ → Type 0

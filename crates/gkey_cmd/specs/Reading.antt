@@ -8,7 +8,7 @@ use Rattle.gk_base.specs.declared.read_fault.ReadRefusal.{ReadRefusal}
 use Rattle.gk_io.specs.Files.{bytes_of}
 use Rattle.nt_reader.specs.File.{FileSays}
 use Rattle.key_file.specs.KeyShape.{KeyShape}
-use Rattle.key_lang.specs.KeyText.{KeysSay as KeyFileSays}
+use Rattle.key_lang.specs.KeyText.{KeysSay}
 use Rattle.key_lang.specs.Faults.{key_fault_text}
 use Rattle.key_lang.specs.declared.fault.KeyRefusal.{KeyRefusal}
 use Rattle.gkey_cmd.specs.Files.{file_text}
@@ -24,8 +24,8 @@ abbrev pub GraphSays : Limits → List ℕ → Result (List Triple) ReadRefusal 
 GraphSays limits bytes answer = FileSays limits bytes answer
 
 -- what the bytes of a key file say: its keys, or the first refused line
-abbrev pub KeysSay : Limits → List ℕ → Result (List KeyShape) KeyRefusal → Type 0
-KeysSay limits bytes answer = KeyFileSays limits.key_bytes bytes answer
+abbrev pub KeyFileSays : Limits → List ℕ → Result (List KeyShape) KeyRefusal → Type 0
+KeyFileSays limits bytes answer = KeysSay limits.key_bytes bytes answer
 
 -- why there is no answer: a line of the graph or of the key file is refused, or there are too many candidate pairs
 pub data Refusal : Type 0 where
@@ -46,7 +46,7 @@ refused_text (MorePairsThan limit) = codes "pairs: more than " ++ decimal limit 
 -- the file under this name is accepted
 abbrev pub IsAccepted : Limits → NamedFiles → File → List ℕ → Type 0
 IsAccepted limits files Graph name = (triples : List Triple) × GraphSays limits (bytes_of files name) (Ok triples)
-IsAccepted limits files Keys name = (keys : List KeyShape) × KeysSay limits (bytes_of files name) (Ok keys)
+IsAccepted limits files Keys name = (keys : List KeyShape) × KeyFileSays limits (bytes_of files name) (Ok keys)
 
 -- it is refused so
 abbrev pub IsRefusedSo : Limits → NamedFiles → File → List ℕ → Refusal → Type 0
@@ -54,7 +54,7 @@ IsRefusedSo limits files Graph name (InGraph refusal) = GraphSays limits (bytes_
 IsRefusedSo limits files Graph name (InKeys refusal) = ⊥
 IsRefusedSo limits files Graph name (MorePairsThan limit) = ⊥
 IsRefusedSo limits files Keys name (InGraph refusal) = ⊥
-IsRefusedSo limits files Keys name (InKeys refusal) = KeysSay limits (bytes_of files name) (Err refusal)
+IsRefusedSo limits files Keys name (InKeys refusal) = KeyFileSays limits (bytes_of files name) (Err refusal)
 IsRefusedSo limits files Keys name (MorePairsThan limit) = ⊥
 
 -- each of these files is accepted

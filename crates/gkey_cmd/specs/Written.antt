@@ -5,7 +5,7 @@ use Rattle.gk_base.specs.declared.term.Triple.{Triple}
 use Rattle.gk_io.specs.Files.{bytes_of}
 use Rattle.key_file.specs.KeyShape.{KeyShape}
 use Rattle.gkey_cmd.specs.Commands.{Wanted, Matching, files_of}
-use Rattle.gkey_cmd.specs.Reading.{NamedFiles, GraphSays, KeysSay, Refusal, MorePairsThan, refused_text, AllAccepted, FirstRefused}
+use Rattle.gkey_cmd.specs.Reading.{NamedFiles, GraphSays, KeyFileSays, Refusal, MorePairsThan, refused_text, AllAccepted, FirstRefused}
 use Rattle.gkey_cmd.specs.Matched.{IsReport, HasTooManyPairs}
 use Rattle.gkey_cmd.specs.declared.ending.Answer.{Answer}
 use Rattle.gkey_cmd.specs.declared.ending.Answer.TheVariants.{Given}
@@ -30,7 +30,7 @@ abbrev pub IsAnswer : ℕ → Type 0
 IsAnswer status = (status ≡ 0) ⊎ (status ≡ 1)
 
 -- each limit is at most that of the program
-pub record AreWithin (limits : Limits) : Type 0 where
+pub record AreAtMostStandard (limits : Limits) : Type 0 where
   pub bytes : limits.bytes ≤ 2 ^ 29
   pub key_bytes : limits.key_bytes ≤ 2 ^ 20
   pub triples : limits.triples ≤ 2 ^ 22
@@ -40,13 +40,13 @@ pub record AreWithin (limits : Limits) : Type 0 where
 abbrev pub HasMorePairs : Limits → NamedFiles → Wanted → Type 0
 HasMorePairs limits files (Matching graph keys) =
     (triples : List Triple) × (key_list : List KeyShape) × GraphSays limits (bytes_of files graph) (Ok triples)
-    × KeysSay limits (bytes_of files keys) (Ok key_list) × HasTooManyPairs triples key_list limits.pairs
+    × KeyFileSays limits (bytes_of files keys) (Ok key_list) × HasTooManyPairs triples key_list limits.pairs
 
 -- the answer of a command whose files are accepted and lead to no more pairs than the limit, and its output
 abbrev pub Answers : Limits → NamedFiles → Wanted → Answer → List ℕ → Type 0
 Answers limits files (Matching graph keys) Given output =
     (triples : List Triple) × (key_list : List KeyShape) × GraphSays limits (bytes_of files graph) (Ok triples)
-    × KeysSay limits (bytes_of files keys) (Ok key_list) × IsReport triples key_list output
+    × KeyFileSays limits (bytes_of files keys) (Ok key_list) × IsReport triples key_list output
 
 -- The words ask for a command, and it is refused so: by the first of its files that is not accepted, or, where all are,
 -- by too many pairs.
@@ -68,7 +68,7 @@ IsAnswered (Some command) files limits answer output = AreAccepted (Some command
 
 -- What a run writes, one case for each way in which it may end: the words ask for no command, the command is refused, or
 -- it is answered.
-pub data Written (command : Option Wanted) (files : NamedFiles) (limits : Limits) (status : ℕ) (output error : List ℕ) : Type 0 where
-  AsNoCommand : command ≡ None → status ≡ 64 → output ≡ [] → error ≡ usage → Written command files limits status output error
-  AsRefused : (refusal : Refusal) → IsRefused command files limits refusal → status ≡ 2 → output ≡ [] → error ≡ refused_text refusal → Written command files limits status output error
-  AsAnswered : (answer : Answer) → IsAnswered command files limits answer output → status ≡ status_of answer → error ≡ [] → Written command files limits status output error
+pub data WritesFor (command : Option Wanted) (files : NamedFiles) (limits : Limits) (status : ℕ) (output error : List ℕ) : Type 0 where
+  AsNoCommand : command ≡ None → status ≡ 64 → output ≡ [] → error ≡ usage → WritesFor command files limits status output error
+  AsRefused : (refusal : Refusal) → IsRefused command files limits refusal → status ≡ 2 → output ≡ [] → error ≡ refused_text refusal → WritesFor command files limits status output error
+  AsAnswered : (answer : Answer) → IsAnswered command files limits answer output → status ≡ status_of answer → error ≡ [] → WritesFor command files limits status output error

@@ -3,7 +3,7 @@
 ghost use Rattle.std.specs.Prelude.{◌≡◌, MatchResult, Ok};
 ghost use Rattle.gkey_cmd.specs.Written.{status_of};
 ghost use Rattle.gkey_cmd.specs.Sent.{TookAll, TookLess, Sent};
-ghost use Rattle.gkey_cmd.specs.Causes.{Ends};
+ghost use Rattle.gkey_cmd.specs.Causes.{IsReportedAs};
 
 use crate::file::File;
 use gk_base::NoMemory;
@@ -69,7 +69,7 @@ fn tell<K: Sink>(sink: &mut K, text: &[u8])
 
 /// Writes what an ending leaves: the answer's text, or an error text. It gives the status.
 pub fn finish<O: Sink, E: Sink>(ending: &Ending, out: &mut O, err: &mut E) -> u8
-    ensures { Ends O.Sink E.Sink out.old out.new err.old err.new ending.now result }
+    ensures { IsReportedAs O.Sink E.Sink out.old out.new err.old err.new ending.now result }
 {
     match ending {
         Ending::NoRow => {

@@ -103,7 +103,10 @@ pub fn load<S: Shelf>(
     requires { limit < 2 ^ 62 }
     ensures held { S.held shelf.new ≡ S.held shelf.old }
     ensures few { IfOk result (λ v. length v.items < 2 ^ 63) }
+    ensures within { IfOk result (λ v. length v.items ≤ limit + 1) }
     ensures bytes { IfOk result (λ v. IfSome (S.held shelf.old) (λ files. v.items ≡ take (limit + 1) (bytes_of files name.now))) }
+    ensures asked { OnOk result (S.asked shelf.new ≡ Some name.now) }
+    ensures left { IfOk result (λ v. IfSome (S.held shelf.old) (λ files. IsSomeAnd (S.rest shelf.new) (λ rest. v.items ++ rest ≡ bytes_of files name.now))) }
     ensures failed { IsErrOf result LoadStop.Failed →
         Rose (S.faults shelf.old) (S.faults shelf.new) × (S.asked shelf.new ≡ Some name.now) × IsTrue (S.bad shelf.new) }
     ensures count { ¬ (IsErrOf result LoadStop.Failed) → S.faults shelf.new ≡ S.faults shelf.old }

@@ -10,6 +10,7 @@ ghost use Rattle.gkey_cmd.specs.Stops.{IsRightMatchStop, MatchEnds};
 use crate::ending::Ending;
 use crate::numbering::number;
 use crate::rows::Rows;
+use chase_laws::laws::law_rows;
 use gk_base::NoMemory;
 use key_lang::KeyFile;
 use match_run::classes;
@@ -27,6 +28,7 @@ fn report_of(alloc: Global, rows: Rows, keys: &KeyFile, limit: u64) -> Result<Ve
     ensures no_more { OnOk result ((triples : List AnyTriple) → StandFor rows triples → ¬ (HasTooManyPairs triples keys.now limit)) }
     ensures stop { IfErr result (λ stop. (triples : List AnyTriple) → StandFor rows triples → IsRightMatchStop triples keys.now limit stop) }
 {
+    law_rows();
     let numbered = number(alloc, rows, keys)?;
     let labels = classes(alloc, numbered.graph, numbered.patterns, limit)?;
     let report = report(alloc, &numbered.names, &labels)?;

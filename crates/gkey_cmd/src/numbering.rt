@@ -6,8 +6,8 @@ ghost use Rattle.gk_base.specs.declared.term.Triple.{Triple as AnyTriple};
 ghost use Rattle.chase_laws.specs.SameRows.{IsUnfolded, AreUnfolded};
 ghost use Rattle.chase_laws.specs.declared.pattern.Slot.TheVariants.{Folded};
 ghost use Rattle.term_table.specs.Folding.{IsLiteralAt};
-ghost use Rattle.gkey_cmd.specs.Numbered.{type_number, AreAlikeFor};
-ghost use Rattle.gkey_cmd.specs.Rows.{StandFor, AreFew, IsNumbered};
+ghost use Rattle.key_file.specs.Numbered.{type_number};
+ghost use Rattle.gkey_cmd.specs.Rows.{StandFor, AreFew, AreAlikeFor, IsNumbered};
 
 use crate::rows::Rows;
 use chase_laws::{Pattern, Slot};

@@ -3,7 +3,7 @@
 ghost use Rattle.std.specs.Prelude.{◌≡◌, ◌<◌, ◌≤◌, ◌^◌, [], length};
 ghost use Rattle.nt_reader.specs.Kept.{HasRead};
 ghost use Rattle.gkey_cmd.specs.Rows.{StandFor};
-ghost use Rattle.gkey_cmd.specs.Written.{AreWithin};
+ghost use Rattle.gkey_cmd.specs.Written.{AreAtMostStandard};
 ghost use Rattle.gkey_cmd.specs.Feeding.{FeedsNext, FeedsAll, GivesRows};
 
 use crate::load::{LoadStop, open};
@@ -108,7 +108,7 @@ pub fn read_rows<S: Shelf>(
     name: &Text,
     limits: &Limits,
 ) -> Result<Rows, GraphStop>
-    requires { AreWithin limits.now }
+    requires { AreAtMostStandard limits.now }
     ensures held { S.held shelf.new ≡ S.held shelf.old }
     ensures gives { GivesRows S.Shelf shelf.old shelf.new limits.now name.now result }
 {
@@ -118,7 +118,8 @@ pub fn read_rows<S: Shelf>(
         Err(LoadStop::NoMemory) => return Err(GraphStop::Stopped(ReadStop::NoMemory)),
     };
     let mut reader = Reader::new(alloc, limits);
-    let mut rows = Rows::new(alloc);
+    let mut rows = Rows::new(alloc, shelf.hash_seed());
+    rows.expect(shelf.size_hint());
     let mut triples = Triples::new(alloc);
     feed_all(shelf, &mut buf, &mut reader, &mut triples, &mut rows)?;
     let mut last = reader.finish()?;

@@ -1,11 +1,12 @@
 //! What the files of a command say.
 
-ghost use Rattle.std.specs.Prelude.{◌≡◌, List, IfOk, Ok, Err, Some};
+ghost use Rattle.std.specs.Prelude.{◌≡◌, List, IfOk, OnOk, Ok, Err, Some};
 ghost use Rattle.gk_base.specs.declared.term.Triple.{Triple as AnyTriple};
 ghost use Rattle.gk_io.specs.Files.{bytes_of};
-ghost use Rattle.gkey_cmd.specs.Reading.{InGraph, InKeys, line_text, IsAccepted, KeysSay};
-ghost use Rattle.gkey_cmd.specs.Written.{AreWithin};
+ghost use Rattle.gkey_cmd.specs.Reading.{InGraph, InKeys, line_text, IsAccepted, KeyFileSays};
+ghost use Rattle.gkey_cmd.specs.Written.{AreAtMostStandard};
 ghost use Rattle.gkey_cmd.specs.Feeding.{AreRowsOf};
+ghost use Rattle.gkey_cmd.specs.Pieces.{KeysLeft};
 ghost use Rattle.gkey_cmd.specs.Causes.{ReadBy};
 
 use crate::ending::Ending;
@@ -38,7 +39,7 @@ pub fn read_graph<S: Shelf>(
     name: &Text,
     limits: &Limits,
 ) -> Result<Rows, Ending>
-    requires { AreWithin limits.now }
+    requires { AreAtMostStandard limits.now }
     ensures held { S.held shelf.new ≡ S.held shelf.old }
     ensures cases { ReadBy S.Shelf shelf.old shelf.new File.Graph name.now limits.now
         (λ files rows. IsAccepted limits.now files File.Graph name.now) result }
@@ -64,10 +65,11 @@ pub fn read_keys<S: Shelf>(
     name: &Text,
     limits: &Limits,
 ) -> Result<KeyFile, Ending>
-    requires { AreWithin limits.now }
+    requires { AreAtMostStandard limits.now }
     ensures held { S.held shelf.new ≡ S.held shelf.old }
     ensures cases { ReadBy S.Shelf shelf.old shelf.new File.Keys name.now limits.now
-        (λ files keys. KeysSay limits.now (bytes_of files name.now) (Ok keys)) result }
+        (λ files keys. KeyFileSays limits.now (bytes_of files name.now) (Ok keys)) result }
+    ensures left { OnOk result (KeysLeft S.Shelf shelf.old shelf.new limits.now name.now) }
 {
     let bytes = match load(alloc, shelf, name, limits.key_bytes) {
         Ok(bytes) => bytes,

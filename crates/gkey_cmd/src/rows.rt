@@ -9,6 +9,13 @@ use std::alloc::Global;
 use term_list::Triples;
 use term_table::Names;
 
+/// A graph has about one name for so many of its bytes. It is rather too few: room for too many names costs little, and where
+/// it is a little short all marks are moved once more.
+const BYTES_A_NAME: u64 = 128;
+
+/// Room is made for so many names at most before they come, whatever the size of the file is said to be.
+const MOST_EXPECTED: u64 = 1 << 22;
+
 /// Triples in numbers, each a row, in their order and with repeats. A number stands for the name at its place. Triples may
 /// come a few at a time, and only a term that is no name yet is kept.
 #[derive(Drop)]
@@ -30,14 +37,25 @@ fn push_rows(rows: &mut Vec<[u32; 3]>, numbers: &[u32]) -> Result<(), NoMemory>
 }
 
 impl Rows {
-    /// No triples. It takes no memory.
-    pub fn new(alloc: Global) -> Rows
+    /// No triples, whose names will be looked up by hashes that begin with this seed, if there is one. It takes no memory.
+    pub fn new(alloc: Global, seed: Option<u64>) -> Rows
         ensures { StandFor result [] }
     {
         Rows {
-            names: Names::new(alloc),
+            names: match seed {
+                Some(seed) => Names::with_seed(alloc, seed),
+                None => Names::new(alloc),
+            },
             rows: Vec::new(alloc),
         }
+    }
+
+    /// Makes room for about as many names as a graph of so many bytes has, before they come.
+    pub fn expect(&mut self, bytes: u64)
+        ensures { self.new ≡ self.old }
+    {
+        self.names
+            .expect((bytes / BYTES_A_NAME).min(MOST_EXPECTED) as u32);
     }
 
     /// Numbers these triples, behind those that came before. It leaves the list empty.

@@ -1,7 +1,7 @@
 -- Flag by flag.
 use Rattle.std.proofs.Common.{◌++◌, ◌∷◌, [], ◌∙◌, sym, ap, map, take}
 use Rattle.gk_base.specs.Term.{is_literal}
-use Rattle.gkey_cmd.proofs.NumberedRows.{flag_next}
+use Rattle.key_file.proofs.NumberedLemmas.{flag_next}
 use Rattle.gkey_cmd.proofs.numbering.literal_flags.Goals as goal
 
 pub loop-place-preserved : goal.loop-place-preserved

@@ -2,8 +2,9 @@
 use Rattle.std.proofs.Common.{length, sym, ◌∙◌, ap, subst, arith}
 use Rattle.term_table.proofs.NumberingLemmas.{length-with_terms}
 use Rattle.key_file.specs.Compile.{key_terms}
-use Rattle.gkey_cmd.specs.Numbered.{AreAlikeFor}
-use Rattle.gkey_cmd.proofs.NumberedRows.{named_of, names_few, rows_within, type_within, folding_of, names_numbered, numbered}
+use Rattle.gkey_cmd.specs.Rows.{AreAlikeFor}
+use Rattle.key_file.proofs.NumberedLemmas.{rows_within, type_within, folding_of}
+use Rattle.gkey_cmd.proofs.NumberedRows.{named_of, names_few, names_numbered, numbered}
 use Rattle.gkey_cmd.proofs.Reports.{few_patterns}
 use Rattle.gkey_cmd.proofs.numbering.number.Goals as goal
 

@@ -1,7 +1,7 @@
 -- The look-up finds the number.
 use Rattle.std.proofs.Common.{ap}
 use Rattle.gk_base.specs.declared.term.Term.TheVariants.{Iri}
-use Rattle.gkey_cmd.proofs.NumberedRows.{type_found}
+use Rattle.key_file.proofs.NumberedLemmas.{type_found}
 use Rattle.gkey_cmd.proofs.numbering.type_number.Goals as goal
 
 pub returns : goal.returns

@@ -1,7 +1,8 @@
 use Rattle.std.proofs.Common.{[], ◌++◌, ◌≤◌, ◌^◌, ◌∙◌, refl, sym, subst, arith}
 use Rattle.gk_base.specs.declared.limits.Limits.{Limits}
 use Rattle.std.proofs.lemmas.Result.{err_from_is_err_and}
-use Rattle.gkey_cmd.proofs.FeedingLemmas.{nothing_open, were_read_none, fed_more, fed_no_more, fed_taken, taken_few, fed_no_memory, fed_all}
+use Rattle.nt_reader.proofs.OpenLemmas.{nothing_open}
+use Rattle.gkey_cmd.proofs.FeedingLemmas.{were_read_none, fed_more, fed_no_more, fed_taken, taken_few, fed_no_memory, fed_all, fewer_left}
 use Rattle.gkey_cmd.proofs.pieces.feed_all.Goals as goal
 
 pub pieces-init : goal.pieces-init
@@ -42,7 +43,7 @@ add-requires g c =
     let f = c.in_ok-count.ensures in
     let t = c.take_triples.ensures in
     let seen = i.fed.1 ++ f.feeds.0 in
-    taken_few c.take_triples.new.self c.pieces.rows i.fed.0 c.take_triples.new.into seen (t.running ∙ f.feeds.4)
+    taken_few c.take_triples.new.self c.pieces.rows i.fed.0 c.take_triples.new.into seen (t.running.1 f.feeds.5)
     (subst (λ (l : Limits). l.triples ≤ 2 ^ 22) (sym (t.limits ∙ f.limits)) i.limit) i.fed.2.stand
     (t.taken i.fed.0 seen (f.feeds.1.fed i.fed.0 i.fed.1 i.fed.2.has))
 
@@ -91,3 +92,11 @@ pieces-preserved g c =
             i.fed.0 c.take_triples.new.into (i.fed.1 ++ f.feeds.0) more t.limits t.taken c.in_ok-add.ensures.stand,
       );
     }
+
+pub pieces-smaller : goal.pieces-smaller
+pieces-smaller g c =
+    let i = c.pieces.invariant in
+    let f = c.in_ok-count.ensures in
+    let t = c.take_triples.ensures in
+    fewer_left c.pieces.reader c.take_triples.new.self i.fed.0 (i.fed.0 ++ c.take_triples.new.into) i.fed.1 f.feeds.0 (t.limits ∙ f.limits) f.feeds.4 (t.running.1 f.feeds.5)
+    i.fed.2.has (t.taken i.fed.0 (i.fed.1 ++ f.feeds.0) (f.feeds.1.fed i.fed.0 i.fed.1 i.fed.2.has)) (omega (arith, f.feeds.2, c.if-count-eq0.false))

@@ -1,6 +1,6 @@
 use Rattle.std.proofs.Common.{List, [], ℕ, ◌≡◌, ◌<◌, ◌≤◌, ◌-◌, ◌^◌, length}
 use Rattle.gk_base.specs.declared.term.Triple.{Triple}
-use Rattle.gkey_cmd.proofs.FeedingLemmas.{HasFed}
+use Rattle.gkey_cmd.proofs.FeedingLemmas.{HasFed, left_of}
 use Rattle.gkey_cmd.proofs.pieces.feed_all.Given as goal
 
 abbrev pub invariant-pieces : goal.invariant-pieces
@@ -18,4 +18,4 @@ invariant-pieces g l =
     }
 
 abbrev pub decreases-pieces : goal.decreases-pieces
-decreases-pieces g l = l.reader.limits.bytes - l.reader.state.bytes
+decreases-pieces g l = left_of l.reader.limits.bytes l.reader.so_far

@@ -1,7 +1,7 @@
 use Rattle.std.proofs.Common.{◌≡◌, ◌≤◌, take, length, refl, sym, arith}
 use Rattle.std.proofs.lemmas.List.{length-take-le}
 use Rattle.std.proofs.lemmas.Result.{err_from_is_err_and}
-use Rattle.gkey_cmd.proofs.FeedingLemmas.{piece_read, nothing_read, was_running, not_running, stopped_by}
+use Rattle.gkey_cmd.proofs.FeedingLemmas.{piece_read, nothing_read, was_running, stopped_by}
 use Rattle.gkey_cmd.proofs.pieces.feed_next.Goals as goal
 
 pub returns-in_err-feed-clause-feeds : goal.returns-in_err-feed-clause-feeds
@@ -20,7 +20,7 @@ returns-in_err-feed-clause-feeds g c =
         within = omega (arith, c.in_ok-count.ensures.within);
         fed = c.in_err-feed.ensures.read;
       },
-      stopped_by c.feed.new.self c.in_err-feed.field-0.0 (not_running (Unit {0}) c.feed.new.self c.in_err-feed.field-0.0 c.in_err-feed.ensures.ok.1) c.in_err-feed.ensures.err,
+      stopped_by c.feed.new.self c.in_err-feed.field-0.0 c.in_err-feed.ensures.err,
     )
 
 pub returns-clause-feeds : goal.returns-clause-feeds
@@ -38,7 +38,8 @@ returns-clause-feeds g c =
         fed = c.in_ok-feed.ensures.read;
       },
       sym len,
-      was_running c.args.reader.now c.feed.result c.in_ok-feed.field-0 c.feed.ensures.again c.in_ok-feed.was,
+      c.in_ok-feed.ensures.open refl,
+      was_running c.args.reader.now.so_far c.feed.result c.in_ok-feed.field-0 c.feed.ensures.again c.in_ok-feed.was,
       c.in_ok-feed.ensures.ok.0 refl,
       nothing_read (shelf.rest c.args.shelf.now) (shelf.rest c.read.new.self) (length c.args.buf.now) n buf c.requires c.in_ok-count.ensures.bytes,
     )
