@@ -1,2 +1,3 @@
 pub mod Term
 pub mod Faults
+pub mod Answers

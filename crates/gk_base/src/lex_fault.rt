@@ -3,37 +3,36 @@
 ghost use Rattle.std.specs.Prelude.{◌≡◌};
 ghost use Rattle.gk_base.specs.Faults.{lex_text};
 
-use crate::NoMemory;
-use std::alloc::{AllocError, AllocFailed};
+use crate::Stop;
 
-/// What is wrong with a line of N-Triples or with a term, by number. Where a line has several faults, the one
+/// What is wrong with a line of N-Triples or with a term. Where a line has several faults, the one
 /// furthest to the left is named, and `NotUtf8` before all others.
 #[derive(Clone, Copy, Debug, PartialEq, Eq)]
 pub enum LexFault {
     /// The line is not UTF-8.
-    NotUtf8 = 1,
+    NotUtf8,
     /// Where the subject should begin stands neither `<` nor `_`.
-    SubjectExpected = 2,
+    SubjectExpected,
     /// Where the predicate should begin stands no `<`.
-    PredicateExpected = 3,
+    PredicateExpected,
     /// Where the object should begin stands none of `<`, `_` and `"`.
-    ObjectExpected = 4,
+    ObjectExpected,
     /// After the object stands no dot.
-    DotExpected = 5,
+    DotExpected,
     /// After the dot stands something other than a comment.
-    TextAfterTheDot = 6,
+    TextAfterTheDot,
     /// Inside an IRI stands a character that may not stand there raw, or the line ends.
-    BadIri = 7,
+    BadIri,
     /// The IRI does not begin with a scheme.
-    RelativeIri = 8,
+    RelativeIri,
     /// After a backslash stands no escape that is allowed there, or one that names no character.
-    BadEscape = 9,
+    BadEscape,
     /// The line ends inside a string.
-    StringNotClosed = 10,
+    StringNotClosed,
     /// After `_` stands no colon with a first character of a label.
-    BadBlankNodeLabel = 11,
+    BadBlankNodeLabel,
     /// After `@` stands no letter, or after a dash of the tag neither letter nor digit.
-    BadLanguageTag = 12,
+    BadLanguageTag,
 }
 
 impl LexFault {
@@ -59,38 +58,4 @@ impl LexFault {
 }
 
 /// Why a term or a line was not read.
-#[derive(Clone, Copy, Debug, PartialEq, Eq)]
-pub enum LexStop {
-    NoMemory,
-    Fault(LexFault),
-}
-
-impl From<NoMemory> for LexStop {
-    ghost use Rattle.gk_base.specs.declared.lex_fault.LexStop.TheVariants as stop;
-
-    ghost from_gives = { λ _ e. e ≡ stop.NoMemory };
-
-    fn from(_: NoMemory) -> Self {
-        LexStop::NoMemory
-    }
-}
-
-impl From<AllocError> for LexStop {
-    ghost use Rattle.gk_base.specs.declared.lex_fault.LexStop.TheVariants as stop;
-
-    ghost from_gives = { λ _ e. e ≡ stop.NoMemory };
-
-    fn from(_: AllocError) -> Self {
-        LexStop::NoMemory
-    }
-}
-
-impl<T: Drop> From<AllocFailed<T>> for LexStop {
-    ghost use Rattle.gk_base.specs.declared.lex_fault.LexStop.TheVariants as stop;
-
-    ghost from_gives = { λ _ e. e ≡ stop.NoMemory };
-
-    fn from(_: AllocFailed<T>) -> Self {
-        LexStop::NoMemory
-    }
-}
+pub type LexStop = Stop<LexFault>;

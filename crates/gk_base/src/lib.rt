@@ -2,6 +2,7 @@
 //! faults of a graph file with their texts.
 //!
 //! - `memory`: the one answer for want of memory
+//! - `stop`: why a call did not answer, want of memory or a fault
 //! - `text`: byte strings
 //! - `term`: terms and triples
 //! - `limits`: how large inputs may be
@@ -13,6 +14,7 @@ mod lex_fault;
 mod limits;
 mod memory;
 mod read_fault;
+mod stop;
 mod term;
 mod text;
 
@@ -20,6 +22,7 @@ pub use lex_fault::{LexFault, LexStop};
 pub use limits::Limits;
 pub use memory::NoMemory;
 pub use read_fault::{ReadFault, ReadRefusal, ReadStop};
+pub use stop::Stop;
 pub use term::{Term, Triple};
 pub use text::Text;
 

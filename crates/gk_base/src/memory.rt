@@ -1,4 +1,4 @@
-//! Want of memory.
+//! Want of memory, the one answer that every call which takes memory may give.
 
 use std::alloc::{AllocError, AllocFailed};
 use std::error::Error;

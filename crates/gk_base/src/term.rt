@@ -1,4 +1,4 @@
-//! Terms and triples.
+//! RDF terms and triples as data, as reading leaves them.
 
 ghost use Rattle.std.specs.Prelude.{◌≡◌, IfOk};
 ghost use Rattle.gk_base.specs.Term.{is_literal};

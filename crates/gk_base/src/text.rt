@@ -1,4 +1,4 @@
-//! Byte strings.
+//! Byte strings, which texts, names and labels are made of.
 
 ghost use Rattle.std.specs.Prelude.{◌≡◌, [], ◌∷◌, refl, bytes_eq, IfOk};
 ghost use Rattle.std.proofs.Common.{rules};

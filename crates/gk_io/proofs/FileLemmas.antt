@@ -2,8 +2,8 @@
 use Rattle.std.proofs.Common.{List, ℕ, Some, true, cond, ◌≡◌, ◌∙◌, ◌∷◌, ◌+◌, ◌<◌, ◌≤◌, get_or, slice_get, drop, length, sym, ap, bytes_eq, Vec, Global, arith, drop_of_length-le}
 use Rattle.std.proofs.lemmas.List.{drop_more}
 use Rattle.std.proofs.lemmas.Option.{slice_get-get_or, slice_get_past}
-use Rattle.gk_io.specs.Files.{bytes_of}
-use Rattle.gk_io.specs.HeldFiles.{contents_of, rest_in, rest_of}
+use Rattle.gk_io.specs.Files.{bytes_of, contents_of}
+use Rattle.gk_io.specs.HeldFiles.{rest_in, rest_of}
 
 -- where the files before place i have other names and the one there has this name
 pub bytes_of-here : (files : List (List ℕ × Vec ℕ Global)) (name : List ℕ) (i : ℕ) (file : List ℕ × Vec ℕ Global) → i < length files → file ≡ get_or files i file → true ≡ bytes_eq file.0 name →

@@ -1,3 +1,3 @@
-pub mod TakenLemmas
-pub mod FileLemmas
-pub mod ResultLemmas
+mod TakenLemmas
+mod FileLemmas
+mod ResultLemmas

@@ -1,4 +1,4 @@
-//! A shelf over the system's files.
+//! A shelf over the system's files, which are found by their paths.
 
 ghost use Rattle.std.specs.Prelude.{◌≡◌, ◌≤◌, ◌<◌, ◌+◌, ◌-◌, ◌^◌, ◌||◌, ◌↔◌, Ok, Some, None, false, true, length, min, is_ok, is_err, IsTrue, IsOk, IsErr, IfOk, IfSome, IsSomeAnd, OnOk, OnErr};
 ghost use Rattle.std.specs.Str.{IsUtf8};

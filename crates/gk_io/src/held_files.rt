@@ -2,8 +2,8 @@
 
 ghost use Rattle.std.specs.Prelude.{◌≡◌, ◌<◌, ◌↔◌, [], length, min, IsTrue};
 ghost use Rattle.std.specs.Bool.{OnTrue, OnFalse};
-ghost use Rattle.gk_io.specs.Files.{bytes_of, TakesNext};
-ghost use Rattle.gk_io.specs.HeldFiles.{contents_of, rest_of, has_file};
+ghost use Rattle.gk_io.specs.Files.{bytes_of, TakesNext, contents_of, has_file};
+ghost use Rattle.gk_io.specs.HeldFiles.{rest_of};
 
 use gk_base::Text;
 use std::marker::Model;
@@ -20,11 +20,12 @@ pub(crate) struct HeldFiles {
 
 impl Model for HeldFiles {
     ghost use Rattle.std.specs.Prelude.{◌≤◌, length};
+    ghost use Rattle.gk_io.specs.Files.{contents_of};
     ghost use Rattle.gk_io.specs.HeldFiles as held;
 
     ghost Value = { held.HeldFiles };
 
-    ghost view = { λ h. record { files = held.contents_of h.files.items; rest = held.rest_of h.files.items h.place h.at } };
+    ghost view = { λ h. record { files = contents_of h.files.items; rest = held.rest_of h.files.items h.place h.at } };
 
     ghost invariant = { λ h. h.at ≤ length (held.rest_of h.files.items h.place 0) };
 }

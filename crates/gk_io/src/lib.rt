@@ -4,6 +4,7 @@
 //! in memory, which tell theirs.
 //!
 //! - `failed`: the one answer of a device that failed
+//! - `file_fault`: what may be wrong with a file that is read for what it says
 //! - `shelf`: files by name
 //! - `sink`: a taker of bytes, and `write_all`
 //! - `sure_shelf`, `sure_sink`: files and bytes in memory, where no call fails
@@ -15,6 +16,7 @@
 mod calls;
 pub mod dir_shelf;
 mod failed;
+pub mod file_fault;
 mod held_bytes;
 mod held_files;
 pub mod mem_shelf;
@@ -28,6 +30,7 @@ pub mod sure_sink;
 
 pub use dir_shelf::DirShelf;
 pub use failed::Failed;
+pub use file_fault::{FileFault, FileStop, file_stop};
 pub use mem_shelf::MemShelf;
 pub use mem_sink::MemSink;
 pub use out_sink::OutSink;

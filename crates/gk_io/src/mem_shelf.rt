@@ -2,8 +2,7 @@
 
 ghost use Rattle.std.specs.Prelude.{◌≡◌, ◌<◌, ◌≤◌, ◌+◌, ◌-◌, ◌^◌, ◌||◌, ◌↔◌, ◌⊎◌, [], Some, None, false, is_err, IfOk, OnOk, OnErr, IsErr, IsTrue, Contains, length, min};
 ghost use Rattle.gk_io.specs.Cause.{HasCause};
-ghost use Rattle.gk_io.specs.Files.{bytes_of, TakesNext};
-ghost use Rattle.gk_io.specs.HeldFiles.{contents_of, has_file};
+ghost use Rattle.gk_io.specs.Files.{bytes_of, TakesNext, contents_of, has_file};
 
 use crate::calls::Calls;
 use crate::held_files::HeldFiles;

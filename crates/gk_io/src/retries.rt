@@ -1,4 +1,4 @@
-//! How often a call of std is tried.
+//! How often a call of std that is interrupted is tried again.
 
 use crate::Failed;
 use std::io;

@@ -1,4 +1,4 @@
-//! Files by name.
+//! What every shelf of files promises: files that are found by name and then read from front to back.
 
 ghost use Rattle.std.specs.Prelude.{◌≡◌, ◌≤◌, ◌||◌, ◌↔◌, Bool, Option, List, ℕ, Some, length, is_err, IsTrue, IsErr, IfOk, IfSome, IsSomeAnd, OnOk, OnErr};
 ghost use Rattle.gk_io.specs.Cause.{HasCause};

@@ -1,4 +1,4 @@
-//! A taker of bytes, and writing a whole text to one.
+//! What every taker of bytes promises, and writing a whole text to one.
 
 ghost use Rattle.std.specs.Prelude.{◌≡◌, ◌<◌, ◌≤◌, [], Option, List, ℕ, length, take, IfOk, OnOk, OnErr};
 ghost use Rattle.gk_io.specs.Cause.{HasCause};

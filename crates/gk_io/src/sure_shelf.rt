@@ -1,7 +1,7 @@
 //! A shelf in memory that never fails.
 
 ghost use Rattle.std.specs.Prelude.{◌≡◌, Some, None, [], false};
-ghost use Rattle.gk_io.specs.HeldFiles.{contents_of};
+ghost use Rattle.gk_io.specs.Files.{contents_of};
 
 use crate::held_files::HeldFiles;
 use crate::{Failed, Shelf};

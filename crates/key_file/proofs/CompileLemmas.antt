@@ -9,7 +9,7 @@ use Rattle.std.proofs.lemmas.List.{flat_map_more}
 use Rattle.gk_base.specs.declared.term.Term.{Term}
 use Rattle.chase_laws.specs.declared.pattern.Slot.TheVariants as node
 use Rattle.term_table.specs.Numbering.{is_named, place_of, with_term, with_terms, AreDistinct}
-use Rattle.term_table.proofs.NumberingLemmas.{slice_get-append_left, slice_get-added, place_of-at, place_of-with_terms, is_named-came, with_term-named, with_term-new, length-with_terms}
+use Rattle.term_table.proofs.CallerLemmas.{slice_get-append_left, slice_get-added, place_of-at, place_of-with_terms, is_named-came, with_term-named, with_term-new, length-with_terms}
 use Rattle.key_file.specs.declared.slot.KeySlot.{KeySlot}
 use Rattle.key_file.specs.declared.slot.KeySlot.TheVariants.{Entity, Any, Value, Folded, Fixed}
 use Rattle.key_file.specs.declared.edge.KeyEdge.{KeyEdge}

@@ -14,7 +14,7 @@ use Rattle.std.proofs.lemmas.Slice.Eq.{bytes_eq-Decides}
 use Rattle.gk_base.specs.declared.term.Term.{Term}
 use Rattle.chase_laws.specs.Shape.{marks, AllWithin}
 use Rattle.term_table.specs.Numbering.{same_term}
-use Rattle.term_table.proofs.NumberingLemmas.{same_term-true, same_term-refl}
+use Rattle.term_table.proofs.CallerLemmas.{same_term-true, same_term-refl}
 use Rattle.key_file.specs.declared.slot.KeySlot.{KeySlot}
 use Rattle.key_file.specs.declared.slot.KeySlot.TheVariants.{Entity, Any, Value, Folded, Fixed}
 use Rattle.key_file.specs.declared.edge.KeyEdge.{KeyEdge}

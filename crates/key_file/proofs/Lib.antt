@@ -1,5 +1,6 @@
-pub mod KeyLemmas
-pub mod WalkLemmas
-pub mod CompileLemmas
-pub mod PatternLemmas
-pub mod NumberedLemmas
+pub mod CallerLemmas
+mod CompileLemmas
+mod KeyLemmas
+mod NumberedLemmas
+mod PatternLemmas
+mod WalkLemmas

@@ -8,11 +8,11 @@ use Rattle.gk_base.specs.Term.{is_literal}
 use Rattle.gk_base.specs.declared.term.Term.{Term}
 use Rattle.gk_base.specs.declared.term.Triple.{Triple}
 use Rattle.term_table.specs.Numbering.{is_named, place_of, with_term, with_terms, names_of}
-use Rattle.term_table.proofs.NumberingLemmas.{slice_get-place_of, is_named-at, place_of-within, is_named-added, is_named-with_term, is_named-with_terms, place_of-with_terms, length-with_terms}
+use Rattle.term_table.proofs.CallerLemmas.{slice_get-place_of, is_named-at, place_of-within, is_named-added, is_named-with_term, is_named-with_terms, place_of-with_terms, length-with_terms}
 use Rattle.chase_laws.specs.Graph.{IsFolding}
 use Rattle.term_table.specs.Folding.{IsLiteralAt}
 use Rattle.term_list.specs.Triples.{triple_terms, terms_of}
-use Rattle.term_list.proofs.TripleLemmas.{length-terms_of}
+use Rattle.term_list.proofs.CallerLemmas.{length-terms_of}
 use Rattle.key_file.specs.Numbered.{row_of, rdf_type, type_number}
 
 -- each term of a triple is a name

@@ -14,7 +14,7 @@ use Rattle.chase_laws.specs.declared.pattern.Edge.{Edge}
 use Rattle.chase_laws.specs.Shape as pattern
 use Rattle.chase_laws.specs.Shape.{Shape, marks, touches, slot_numbers, IsPattern}
 use Rattle.term_table.specs.Numbering.{is_named, place_of, with_term, with_terms}
-use Rattle.term_table.proofs.NumberingLemmas.{slice_get-place_of, is_named-came, length-with_terms}
+use Rattle.term_table.proofs.CallerLemmas.{slice_get-place_of, is_named-came, length-with_terms}
 use Rattle.key_file.specs.declared.slot.KeySlot.{KeySlot}
 use Rattle.key_file.specs.declared.slot.KeySlot.TheVariants.{Entity, Any, Value, Folded, Fixed}
 use Rattle.key_file.specs.declared.edge.KeyEdge.{KeyEdge}

@@ -47,6 +47,7 @@ impl KeyFile {
         ensures ok { OnOk result (self.new ≡ self.old ++ key ∷ []) }
         ensures err { OnErr result (self.new ≡ self.old) }
     {
+        // The read lets the proof see that the key is valid.
         let _ = &key.name;
         self.keys.push(key)?;
         Ok(())

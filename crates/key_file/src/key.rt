@@ -1,4 +1,4 @@
-//! Keys.
+//! A key: its name, its slots and its edges, which its type keeps valid.
 
 ghost use Rattle.std.specs.Prelude.{◌≡◌};
 ghost use Rattle.key_file.specs.Key.{IsKey};

@@ -1,4 +1,4 @@
-//! What the test of a valid key says.
+//! What the test of a valid key says. The functions do nothing: their contracts are the laws.
 
 ghost use Rattle.std.specs.Prelude.{◌↔◌};
 ghost use Rattle.key_file.specs.KeyShape.{KeyShape};

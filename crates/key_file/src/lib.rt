@@ -6,6 +6,7 @@
 //! - `edge`: triples of a key
 //! - `key`: keys
 //! - `file`: the keys of a file
+//! - `name`: names of keys and of their variables
 //! - `walks`: which slots stand on an edge, and whether walks lead to all of them
 //! - `patterns`: keys as patterns over numbers
 //! - `laws`: what the test of a valid key says
@@ -15,6 +16,7 @@ mod edge;
 mod file;
 mod key;
 pub mod laws;
+mod name;
 mod patterns;
 mod slot;
 mod walks;
@@ -22,9 +24,7 @@ mod walks;
 pub use edge::KeyEdge;
 pub use file::KeyFile;
 pub use key::KeyDef;
+pub use name::is_name;
 pub use patterns::compile;
 pub use slot::KeySlot;
 pub use walks::{is_connected, is_used};
-
-#[cfg(test)]
-mod tests;

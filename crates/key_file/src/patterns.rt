@@ -97,7 +97,7 @@ fn all_patterns(alloc: Global, keys: &[KeyDef], names: &mut Names) -> Result<Vec
     Ok(patterns)
 }
 
-/// Names are all different.
+/// Names are all different. It is here for the proof of `compile`, and does nothing.
 fn names_differ(names: &Names)
     ensures { AreDistinct names.now }
 {

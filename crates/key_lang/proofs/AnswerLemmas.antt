@@ -2,60 +2,57 @@
 use Rattle.std.proofs.Common.{◌≡◌, ℕ, Bool, true, false, List, slice_range, Result, Ok, Err, refl, sym, ap, ◌∙◌, subst}
 use Rattle.gk_base.specs.declared.term.Term.{Term}
 use Rattle.gk_base.specs.declared.lex_fault.LexFault.{LexFault}
-use Rattle.gk_base.specs.declared.lex_fault.LexStop.{LexStop}
-use Rattle.gk_base.specs.declared.lex_fault.LexStop.TheVariants as lex
-use Rattle.nt_lex.specs.Answers as lexing
-use Rattle.nt_lex.specs.Answers.{HasOne}
+use Rattle.gk_base.specs.Answers.{LexStop, HasOne, IsSo}
+use Rattle.gk_base.specs.declared.stop.Stop.TheVariants as lex
 use Rattle.nt_lex.specs.Chars.{is_blank}
 use Rattle.nt_lex.specs.Scans.{IsRunAt}
-use Rattle.nt_reader.proofs.LineLemmas.{run_once, true_false}
+use Rattle.nt_reader.proofs.CallerLemmas.{run_once, true_false}
 use Rattle.key_lang.specs.declared.fault.KeyFault.{KeyFault}
 use Rattle.key_lang.specs.declared.fault.KeyFault.TheVariants.{UnknownStatement}
-use Rattle.key_lang.specs.declared.fault.LineStop.{LineStop}
-use Rattle.key_lang.specs.declared.fault.LineStop.TheVariants.{NoMemory, Fault}
+use Rattle.key_lang.specs.Answers.{LineStop, Is, Then, stops, goes_on, Where, yes, no, Lexed, reads, fails}
+use Rattle.gk_base.specs.declared.stop.Stop.TheVariants.{NoMemory, Fault}
 use Rattle.key_lang.specs.Faults.{fault_of_term}
-use Rattle.key_lang.specs.Answers.{Is, Then, stops, goes_on, Where, yes, no, Lexed, reads, fails, AnswersLine}
 use Rattle.key_lang.specs.Tokens.{Skipping, is_word_byte, WithWord, is_over, Closes}
 use Rattle.key_lang.specs.Parts.{ClosesHere, in_key_file}
 
 -- the first part stopped
 pub then_stop : {A B : Type 0} (First : Result A KeyFault → Type 0) (After : A → Result B KeyFault → Type 0) (stop : LineStop)
-    → AnswersLine First (Err stop) → AnswersLine (Then First After) (Err stop)
+    → IsSo First (Err stop) → IsSo (Then First After) (Err stop)
 then_stop First After NoMemory so = tt
 then_stop First After (Fault f) so = stops so
 
 -- the first part gave a value
 pub then_so : {A B : Type 0} (First : Result A KeyFault → Type 0) (After : A → Result B KeyFault → Type 0) (x : A) (r : Result B LineStop)
-    → First (Ok x) → AnswersLine (After x) r → AnswersLine (Then First After) r
+    → First (Ok x) → IsSo (After x) r → IsSo (Then First After) r
 then_so First After x (Ok y) f so = goes_on f so
 then_so First After x (Err NoMemory) f so = tt
 then_so First After x (Err (Fault fault)) f so = goes_on f so
 
-pub yes_so : {A : Type 0} (test : Bool) (Yes No : Result A KeyFault → Type 0) (r : Result A LineStop) → test ≡ true → AnswersLine Yes r → AnswersLine (Where test Yes No) r
+pub yes_so : {A : Type 0} (test : Bool) (Yes No : Result A KeyFault → Type 0) (r : Result A LineStop) → test ≡ true → IsSo Yes r → IsSo (Where test Yes No) r
 yes_so test Yes No (Ok y) t so = yes t so
 yes_so test Yes No (Err NoMemory) t so = tt
 yes_so test Yes No (Err (Fault fault)) t so = yes t so
 
-pub no_so : {A : Type 0} (test : Bool) (Yes No : Result A KeyFault → Type 0) (r : Result A LineStop) → test ≡ false → AnswersLine No r → AnswersLine (Where test Yes No) r
+pub no_so : {A : Type 0} (test : Bool) (Yes No : Result A KeyFault → Type 0) (r : Result A LineStop) → test ≡ false → IsSo No r → IsSo (Where test Yes No) r
 no_so test Yes No (Ok y) t so = no t so
 no_so test Yes No (Err NoMemory) t so = tt
 no_so test Yes No (Err (Fault fault)) t so = no t so
 
 pub skip_so : {A : Type 0} (line : List ℕ) (at next : ℕ) (Says : ℕ → Result A KeyFault → Type 0) (r : Result A LineStop)
-    → IsRunAt is_blank line at next → AnswersLine (Says next) r → AnswersLine (Skipping line at Says) r
+    → IsRunAt is_blank line at next → IsSo (Says next) r → IsSo (Skipping line at Says) r
 skip_so line at next Says (Ok y) run so = record { next = next; skips = run; says = so }
 skip_so line at next Says (Err NoMemory) run so = tt
 skip_so line at next Says (Err (Fault fault)) run so = record { next = next; skips = run; says = so }
 
 pub word_so : {A : Type 0} (line : List ℕ) (at end : ℕ) (Says : List ℕ → ℕ → Result A KeyFault → Type 0) (r : Result A LineStop)
-    → IsRunAt is_word_byte line at end → AnswersLine (Says (slice_range line at end) end) r → AnswersLine (WithWord line at Says) r
+    → IsRunAt is_word_byte line at end → IsSo (Says (slice_range line at end) end) r → IsSo (WithWord line at Says) r
 word_so line at end Says (Ok y) run so = record { end = end; run = run; says = so }
 word_so line at end Says (Err NoMemory) run so = tt
 word_so line at end Says (Err (Fault fault)) run so = record { end = end; run = run; says = so }
 
 -- nothing more stands there
 pub close_so : {A : Type 0} (line : List ℕ) (at : ℕ) (Says : Result A KeyFault → Type 0) (r : Result A LineStop) (b : Bool)
-    → ClosesHere line at b → b ≡ true → AnswersLine Says r → AnswersLine (Closes line at Says) r
+    → ClosesHere line at b → b ≡ true → IsSo Says r → IsSo (Closes line at Says) r
 close_so line at Says (Ok y) b c t so = record { next = c.next; skips = c.skips; says = yes (sym c.is ∙ t) so }
 close_so line at Says (Err NoMemory) b c t so = tt
 close_so line at Says (Err (Fault fault)) b c t so = record { next = c.next; skips = c.skips; says = yes (sym c.is ∙ t) so }
@@ -66,10 +63,10 @@ pub open_so : {A : Type 0} (line : List ℕ) (at : ℕ) (Says : Result A KeyFaul
 open_so line at Says b c t = record { next = c.next; skips = c.skips; says = no (sym c.is ∙ t) refl }
 
 pub lexed_so : (Says : Result (Term × ℕ) LexFault → Type 0) (r : Result (Term × ℕ) LexStop) (s : Result (Term × ℕ) LineStop) → s ≡ in_key_file r
-    → lexing.IsSo Says r → AnswersLine (Lexed Says) s
-lexed_so Says r s e so = subst (AnswersLine (Lexed Says)) (sym e) (given r so)
+    → IsSo Says r → IsSo (Lexed Says) s
+lexed_so Says r s e so = subst (IsSo (Lexed Says)) (sym e) (given r so)
   where
-    given : (r : Result (Term × ℕ) LexStop) → lexing.IsSo Says r → AnswersLine (Lexed Says) (in_key_file r)
+    given : (r : Result (Term × ℕ) LexStop) → IsSo Says r → IsSo (Lexed Says) (in_key_file r)
     given (Ok x) so = reads so
     given (Err lex.NoMemory) so = tt
     given (Err (lex.Fault f)) so = fails so

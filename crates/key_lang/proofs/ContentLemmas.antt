@@ -4,35 +4,20 @@ use Rattle.std.proofs.lemmas.Bool.{and_parts}
 use Rattle.std.proofs.lemmas.Bool.Decides.{nat_tests}
 use Rattle.std.specs.List.{flat_map, list_all}
 use Rattle.gk_base.specs.declared.term.Term.{Term}
-use Rattle.nt_reader.specs.Lines.{Lined, rest, feed, is_line_byte}
+use Rattle.nt_reader.specs.Lines.{is_line_byte}
 use Rattle.term_text.specs.CanonicalText.{term_text}
 use Rattle.key_file.specs.declared.slot.KeySlot.{KeySlot}
 use Rattle.key_file.specs.declared.slot.KeySlot.TheVariants.{Entity, Any, Value, Folded, Fixed}
 use Rattle.key_file.specs.declared.edge.KeyEdge.{KeyEdge}
-use Rattle.key_lang.specs.Tokens.{is_name_byte, is_name, begins_constant}
+use Rattle.key_file.specs.Name.{is_name_byte, is_name}
+use Rattle.key_lang.specs.Tokens.{begins_constant}
 use Rattle.key_lang.specs.CanonicalKeys.{typed_end, declaration_text, node_text, optional_node, node_at, triple_line, first_line}
-use Rattle.key_lang.proofs.TextLemmas.{IsText, text_append, text_byte, text_cons, text_low, text_term}
+use Rattle.nt_reader.proofs.CallerLemmas.{AllOf, IsText, text_append, text_byte, text_cons, text_low, text_term, with_end, joined}
 use Rattle.key_lang.proofs.LineForms.{IsIri, IsGiven}
-
--- each of the list
-abbrev pub AllOf : {X : Type 0} → (X → Type 0) → List X → Type 0
-AllOf P [] = Unit {0}
-AllOf P (x ∷ xs) = P x × AllOf P xs
 
 pub all_of_append : {X : Type 0} (P : X → Type 0) (xs ys : List X) → AllOf P xs → AllOf P ys → AllOf P (xs ++ ys)
 all_of_append P [] ys a b = b
 all_of_append P (x ∷ xs) ys a b = (a.0, all_of_append P xs ys a.1 b)
-
--- lines with their ends
-abbrev pub with_end : List ℕ → List ℕ
-with_end line = line ++ 0x0A ∷ []
-
-abbrev pub joined : List (List ℕ) → List ℕ
-joined lines = flat_map with_end lines
-
-pub joined_lined : (lines : List (List ℕ)) → AllOf IsText lines → Lined lines [] (joined lines)
-joined_lined [] a = rest refl
-joined_lined (line ∷ lines) a = feed a.0.line (joined_lined lines a.1) (append_assoc line (0x0A ∷ []) (joined lines))
 
 -- texts that are contents with their ends
 pub joined_map : {X : Type 0} (content text : X → List ℕ) (P : X → Type 0) → ((x : X) → P x → text x ≡ with_end (content x)) → (xs : List X) → AllOf P xs → flat_map text xs ≡ joined (map content xs)
@@ -103,17 +88,11 @@ name_plain b h = grind (arith, nat_tests)
 text_name : (name : List ℕ) → is_name name ≡ true → IsText name
 text_name name n = text_low is_name_byte name_low name_plain name (and_parts _ _ n).1
 
-heads_apart : (a : ℕ) (m n : List ℕ) → a ∷ m ≡ 0x5F ∷ n → a ≡ 0x5F
-heads_apart a m n e = cc
-
-no_under : (b : ℕ) → begins_constant b ≡ true → b ≡ 0x5F → ⊥
-no_under b h e = grind (arith, nat_tests)
-
 text_iri : (t : Term) → IsIri t → IsText (term_text t)
-text_iri t i = text_term (term_text t) t i.spells (λ more e. absurd (no_under 0x3C refl (heads_apart 0x3C i.more more (sym i.first ∙ e))))
+text_iri t i = text_term (term_text t) t i.spells
 
 text_given : (t : Term) → IsGiven t → IsText (term_text t)
-text_given t g = text_term (term_text t) t g.spells (λ more e. no_under g.head g.begins (heads_apart g.head g.more more (sym g.first ∙ e)))
+text_given t g = text_term (term_text t) t g.spells
 
 space : (after : List ℕ) → IsText after → IsText (0x20 ∷ after)
 space after t = text_cons 0x20 after (lit< tt) refl t

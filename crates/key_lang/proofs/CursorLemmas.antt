@@ -12,7 +12,8 @@ use Rattle.nt_lex.specs.Spelling.{Spells}
 use Rattle.nt_lex.specs.Reading.{Says, TermStops}
 use Rattle.key_lang.specs.declared.fault.KeyFault.{KeyFault}
 use Rattle.key_lang.specs.Answers.{yes, reads}
-use Rattle.key_lang.specs.Tokens.{Skipping, is_word_byte, WithWord, Closes, is_name_byte, is_name, TokenSays}
+use Rattle.key_file.specs.Name.{is_name_byte, is_name}
+use Rattle.key_lang.specs.Tokens.{Skipping, is_word_byte, WithWord, Closes, TokenSays}
 
 -- the line has this text from this place on
 pub record At (line : List ℕ) (at : ℕ) (rest : List ℕ) : Type 0 where

@@ -7,7 +7,7 @@ use Rattle.std.proofs.lemmas.List.Sums.{fails_before_first}
 use Rattle.std.specs.List.{list_all, list_any, position_or_len}
 use Rattle.gk_base.specs.declared.term.Term.{Term}
 use Rattle.term_table.specs.Numbering.{same_term}
-use Rattle.term_table.proofs.NumberingLemmas.{same_term-Decides, slice_get-append}
+use Rattle.term_table.proofs.CallerLemmas.{same_term-Decides, slice_get-append}
 use Rattle.key_file.specs.declared.slot.KeySlot.{KeySlot}
 use Rattle.key_file.specs.declared.slot.KeySlot.TheVariants.{Entity, Any, Value, Folded, Fixed}
 use Rattle.key_file.specs.KeyShape.{KeyShape}
@@ -19,9 +19,9 @@ use Rattle.key_lang.specs.declared.open_key.End.TheVariants.{Variable, Constant}
 use Rattle.key_lang.specs.declared.open_key.OpenEdge.{OpenEdge}
 use Rattle.key_lang.specs.declared.open_key.Object.{Object}
 use Rattle.key_lang.specs.declared.open_key.Object.TheVariants.{Declared, Given}
-use Rattle.key_lang.specs.OpenKey.{OpenShape, KeyState, nodes, sigil_of, slot_name, is_named_so, begin, declare, same_end, same_triple, add, placed_at, placed_constant, link}
+use Rattle.key_lang.specs.OpenKey.{OpenShape, KeyState, nodes, sigil_of, slot_name, is_named_so, begin, declare, same_end, same_triple, add, constant_or_new, placed_constant, link}
 use Rattle.key_lang.specs.Fair.{is_no_constant, leads, is_inside, IsFair, IsFairState}
-use Rattle.key_lang.proofs.GoodLemmas.{Good, good_if, good_led}
+use Rattle.key_lang.proofs.GoodLemmas.{Good, good_if, good_link_constant}
 use Rattle.key_lang.proofs.DifferLemmas.{differ_push}
 use Rattle.key_lang.proofs.WholeLemmas.{some_subject, some_first}
 
@@ -133,7 +133,7 @@ module _ (key : OpenShape) (fair : IsFair key) where
   placed_fair term = by_place (position (same_term term) key.constants) refl
     where
       by_place : (o : Option ℕ) → position (same_term term) key.constants ≡ o
-          → Good (λ r. IsFairAs key.name r.0 × (r.1 < length r.0.constants) × (r.0.variables ≡ key.variables)) (placed_at key term o)
+          → Good (λ r. IsFairAs key.name r.0 × (r.1 < length r.0.constants) × (r.0.variables ≡ key.variables)) (constant_or_new key term o)
       by_place (Some place) e = ((fair, refl), (position-Some (same_term term) key.constants place term e).0, refl)
       by_place None e =
           let grown : OpenShape = record key { constants = key.constants ++ term ∷ [] } in
@@ -167,7 +167,7 @@ pub link_fair : (key : OpenShape) → IsFair key → (from : ℕ) (pred : Term) 
     → Good (IsFairAs key.name) (link key from pred object)
 link_fair key fair from pred (Declared place) subject there = add_fair key fair (record { from = from; pred = pred; to = Variable place }) (and_from _ _ subject (lt-ltb _ _ there))
 link_fair key fair from pred (Given term) subject there =
-    good_led (placed_constant key term) from pred (IsFairAs key.name) {Q = IsFairAs key.name} {variables = key.variables} (placed_fair key fair term) λ k place f below same.
+    good_link_constant (placed_constant key term) from pred (IsFairAs key.name) {Q = IsFairAs key.name} {variables = key.variables} (placed_fair key fair term) λ k place f below same.
     add_to k place f.0 f.1 below (ap may_be_subject (ap (λ (l : List KeySlot). slice_get l from) same) ∙ subject)
   where
     add_to : (k : OpenShape) (place : ℕ) → IsFair k → k.name ≡ key.name → place < length k.constants → may_be_subject (slice_get k.variables from) ≡ true

@@ -5,7 +5,7 @@ use Rattle.std.proofs.lemmas.List.{get_or-take, get_or-drop}
 use Rattle.std.proofs.lemmas.List.Quantifiers.{position-Some}
 use Rattle.std.proofs.lemmas.Option.{get_or_from_slice_get}
 use Rattle.gk_base.specs.declared.term.Term.{Term}
-use Rattle.chase_laws.proofs.Lists.{slice_get-within}
+use Rattle.chase_laws.proofs.CallerLemmas.{slice_get-within}
 use Rattle.key_file.specs.declared.slot.KeySlot.{KeySlot}
 use Rattle.key_file.specs.declared.slot.KeySlot.TheVariants.{Entity, Any, Value, Folded, Fixed}
 use Rattle.key_file.specs.KeyShape.{KeyShape}
@@ -15,7 +15,8 @@ use Rattle.key_lang.specs.declared.fault.KeyFault.{KeyFault}
 use Rattle.key_lang.specs.declared.fault.KeyFault.TheVariants.{BadName}
 use Rattle.key_lang.specs.declared.keyword.Keyword.{Keyword}
 use Rattle.key_lang.specs.declared.keyword.Keyword.TheVariants as word
-use Rattle.key_lang.specs.Tokens.{Skipping, is_name, is_over}
+use Rattle.key_file.specs.Name.{is_name}
+use Rattle.key_lang.specs.Tokens.{Skipping, is_over}
 use Rattle.key_lang.specs.OpenKey.{OpenShape, KeyState, sigil_of, is_named_so}
 use Rattle.key_lang.specs.Statements.{KeySays, typed_slot, TypedSays, slot_of_value, ValueSays, found, declared_of, DeclaredSays, begins_key_subject, KeySubjectSays, ObjectSays, TripleSays, Changes, OutsideSays, InsideSays, WordSays, LinkSays, keyword_of, StatementSays, KeyLineSays, no_text, text}
 use Rattle.key_lang.specs.Fair.{is_no_constant, IsFair, IsFairBeside, IsFairState}

@@ -7,7 +7,7 @@ use Rattle.key_lang.specs.declared.fault.KeyFault.{KeyFault}
 use Rattle.key_lang.specs.declared.open_key.End.TheVariants.{Constant}
 use Rattle.key_lang.specs.Answers.{Is, Then, stops, goes_on, Where, yes, no}
 use Rattle.key_lang.specs.Tokens.{Skipping, is_word_byte, WithWord, is_over, Closes}
-use Rattle.key_lang.specs.OpenKey.{OpenShape, add, led}
+use Rattle.key_lang.specs.OpenKey.{OpenShape, add, link_constant}
 
 -- the value is so, where there is one
 abbrev pub Good : {A F : Type 0} → (A → Type 0) → Result A F → Type 0
@@ -46,9 +46,9 @@ pub keeps_close : {A : Type 0} (P : A → Type 0) (line : List ℕ) (at : ℕ) (
 keeps_close P line at Says h = keeps_skip P line at _ (λ n. keeps_where P (is_over line n) Says _ (λ _. h) (λ _. keeps_is P _ tt))
 
 -- what leads to a placed constant
-pub good_led : (r : Result (OpenShape × ℕ) KeyFault) (from : ℕ) (pred : Term) (P : OpenShape → Type 0) {Q : OpenShape → Type 0} {variables : List KeySlot}
+pub good_link_constant : (r : Result (OpenShape × ℕ) KeyFault) (from : ℕ) (pred : Term) (P : OpenShape → Type 0) {Q : OpenShape → Type 0} {variables : List KeySlot}
     → Good (λ p. Q p.0 × (p.1 < length p.0.constants) × (p.0.variables ≡ variables)) r
     → ((k : OpenShape) (place : ℕ) → Q k → place < length k.constants → k.variables ≡ variables → Good P (add k (record { from = from; pred = pred; to = Constant place })))
-    → Good P (led from pred r)
-good_led (Ok p) from pred P g h = h p.0 p.1 g.0 g.1 g.2
-good_led (Err f) from pred P g h = tt
+    → Good P (link_constant from pred r)
+good_link_constant (Ok p) from pred P g h = h p.0 p.1 g.0 g.1 g.2
+good_link_constant (Err f) from pred P g h = tt

@@ -15,17 +15,17 @@ use Rattle.key_lang.specs.declared.fault.KeyFault.TheVariants.{NameUsedTwice, Va
 use Rattle.key_lang.specs.declared.keyword.Keyword.TheVariants as word
 use Rattle.key_lang.specs.declared.open_key.OpenEdge.{OpenEdge}
 use Rattle.key_lang.specs.Answers.{Is, goes_on, yes}
-use Rattle.key_lang.specs.Tokens.{is_name}
+use Rattle.key_file.specs.Name.{is_name}
 use Rattle.key_lang.specs.OpenKey.{OpenShape, KeyState, nodes, sigil_of, slot_name, is_named_so, declare, key_edge, whole, finish}
 use Rattle.key_lang.specs.Statements.{KeyLineSays}
 use Rattle.key_lang.specs.KeyText.{LinesSay, none, good}
 use Rattle.key_lang.specs.Fair.{is_no_constant, IsFair}
 use Rattle.key_lang.specs.CanonicalKeys.{declaration_text, triple_line, first_line, key_text}
 use Rattle.key_lang.proofs.LinesLemmas.{lines_append}
-use Rattle.key_lang.proofs.TextLemmas.{IsText}
+use Rattle.nt_reader.proofs.CallerLemmas.{AllOf, joined, with_end, IsText}
 use Rattle.key_lang.proofs.CursorLemmas.{at_first, at_more, says_close}
 use Rattle.key_lang.proofs.LineForms.{IsIri, key_says, typed_says, value_says, word_line}
-use Rattle.key_lang.proofs.ContentLemmas.{AllOf, all_of_append, with_end, joined, joined_map, all_map, GoodSlot, first_content, declaration_content, triple_content, first_ended, declaration_ended, triple_ended, text_first, text_declaration, text_end}
+use Rattle.key_lang.proofs.ContentLemmas.{all_of_append, joined_map, all_map, GoodSlot, first_content, declaration_content, triple_content, first_ended, declaration_ended, triple_ended, text_first, text_declaration, text_end}
 use Rattle.key_lang.proofs.PlaceLemmas.{named_same}
 use Rattle.key_lang.proofs.ReplayLemmas.{Grows, plain, middle, replay, triples_plain}
 

@@ -5,15 +5,15 @@ use Rattle.std.proofs.lemmas.List.{take_all, length-drop}
 use Rattle.nt_reader.specs.Lines.{cut_of, last_of, lines}
 use Rattle.nt_reader.specs.File.{judged, line_of_next}
 use Rattle.key_file.specs.KeyShape.{KeyShape}
+use Rattle.gk_base.specs.Answers.{IsSo}
 use Rattle.key_lang.specs.declared.fault.KeyFault.TheVariants.{FileTooLong}
 use Rattle.key_lang.specs.declared.fault.KeyRefusal.{KeyRefusal}
-use Rattle.key_lang.specs.declared.fault.KeyStop.{KeyStop}
-use Rattle.key_lang.specs.declared.fault.KeyStop.TheVariants.{NoMemory, Refused}
+use Rattle.key_lang.specs.Answers.{KeyStop, Is, stops, goes_on}
+use Rattle.gk_base.specs.declared.stop.Stop.TheVariants.{NoMemory, Fault}
 use Rattle.key_lang.specs.declared.file.Seen.{Seen}
-use Rattle.key_lang.specs.Answers.{Is, stops, goes_on}
 use Rattle.key_lang.specs.Statements.{KeyLineSays}
-use Rattle.key_lang.specs.KeyText.{LinesSay, start, ended, after_lines, KeysSay, IsTold}
-use Rattle.key_lang.specs.Seen.{IsJudged, HasSeen, SeesLines, HasSeenAll, SeesAll, next_line}
+use Rattle.key_lang.specs.KeyText.{LinesSay, start, ended, after_lines, KeysSay}
+use Rattle.key_lang.specs.Seen.{NumberedSays, HasSeen, SeesLines, HasSeenAll, SeesAll, next_line}
 use Rattle.key_lang.proofs.LinesLemmas.{lines_push, lines_stop, refused_more}
 
 within_judged : (most : ℕ) (bytes : List ℕ) → length bytes ≤ most → judged most bytes ≡ lines bytes
@@ -41,10 +41,10 @@ rest_good bytes seen after s some says number =
       number = omega (arith, number, s.number, ap length whole, length-append all (drop seen.from bytes ∷ []));
     }
 
-pub rest_stop : (bytes : List ℕ) (seen : Seen) (stop : KeyStop) → HasSeen bytes seen → seen.from < length bytes → IsJudged seen.state (drop seen.from bytes) seen.number (Err stop)
-    → SeesAll bytes (Err stop)
+pub rest_stop : (bytes : List ℕ) (seen : Seen) (stop : KeyStop) → HasSeen bytes seen → seen.from < length bytes → IsSo (NumberedSays seen.state (drop seen.from bytes) seen.number) (Err stop)
+    → IsSo (SeesAll bytes) (Err stop)
 rest_stop bytes seen NoMemory s some j = tt
-rest_stop bytes seen (Refused r) s some j =
+rest_stop bytes seen (Fault r) s some j =
     subst (λ (l : List (List ℕ)). LinesSay start 1 l (Err r)) (sym (lines_last bytes seen s some))
     (lines_stop (cut_of bytes).ended [] (drop seen.from bytes) start seen.state 1 r (omega (arith, j.0, s.number)) s.says j.1)
 
@@ -58,9 +58,9 @@ refused limit bytes r says = stops (elim (cases_lt limit (length bytes)) [
       (refused_more (cut_of bytes).ended (last_of (cut_of bytes).rest) start 1 r (subst (λ (l : List (List ℕ)). LinesSay start 1 l (Err r)) whole says))
 ])
 
-pub front_stop : (limit : ℕ) (bytes front : List ℕ) (stop : KeyStop) → front ≡ take limit bytes → SeesLines front (Err stop) → IsTold (KeysSay limit bytes) (Err stop)
+pub front_stop : (limit : ℕ) (bytes front : List ℕ) (stop : KeyStop) → front ≡ take limit bytes → IsSo (SeesLines front) (Err stop) → IsSo (KeysSay limit bytes) (Err stop)
 front_stop limit bytes front NoMemory e s = tt
-front_stop limit bytes front (Refused r) e s = refused limit bytes r (subst (λ (l : List ℕ). SeesLines l (Err (Refused r))) e s)
+front_stop limit bytes front (Fault r) e s = refused limit bytes r (subst (λ (l : List ℕ). SeesLines l (Err r)) e s)
 
 -- the byte after the limit
 pub keys_long : (limit : ℕ) (bytes front : List ℕ) (seen : Seen) (line : ℕ) → front ≡ take limit bytes → HasSeen front seen → limit < length bytes → line ≡ next_line seen (get_or bytes limit 0)
@@ -77,12 +77,12 @@ keys_long limit bytes front seen line e s longer is =
     (ap (λ n. let r : KeyRefusal = record { line = n; fault = FileTooLong } in Err r) same ∙ sym (cond-true _ _ _ (lt-ltb limit (length bytes) longer)))
 
 -- a whole file within the limit
-pub rest_stop_told : (limit : ℕ) (bytes : List ℕ) (stop : KeyStop) → length bytes ≤ limit → SeesAll bytes (Err stop) → IsTold (KeysSay limit bytes) (Err stop)
+pub rest_stop_told : (limit : ℕ) (bytes : List ℕ) (stop : KeyStop) → length bytes ≤ limit → IsSo (SeesAll bytes) (Err stop) → IsSo (KeysSay limit bytes) (Err stop)
 rest_stop_told limit bytes NoMemory within s = tt
-rest_stop_told limit bytes (Refused r) within s = stops (subst (λ (l : List (List ℕ)). LinesSay start 1 l (Err r)) (sym (within_judged limit bytes within)) s)
+rest_stop_told limit bytes (Fault r) within s = stops (subst (λ (l : List (List ℕ)). LinesSay start 1 l (Err r)) (sym (within_judged limit bytes within)) s)
 
 pub keys_whole : (limit : ℕ) (bytes : List ℕ) (seen : Seen) (r : Result (List KeyShape) KeyStop) → length bytes ≤ limit → HasSeenAll bytes seen
-    → IsTold (Is (ended seen.state.keys seen.state.current (seen.number - 1))) r → IsTold (KeysSay limit bytes) r
+    → IsSo (Is (ended seen.state.keys seen.state.current (seen.number - 1))) r → IsSo (KeysSay limit bytes) r
 keys_whole limit bytes seen r within s told = by_answer r told
   where
     judges : LinesSay start 1 (judged limit bytes) (Ok seen.state)
@@ -91,7 +91,7 @@ keys_whole limit bytes seen r within s told = by_answer r told
     ends : ended seen.state.keys seen.state.current (seen.number - 1) ≡ after_lines limit bytes seen.state
     ends = ap (ended seen.state.keys seen.state.current) (omega (arith, s.number)) ∙ sym (cond-false _ _ _ (le-ltb limit (length bytes) within))
 
-    by_answer : (r : Result (List KeyShape) KeyStop) → IsTold (Is (ended seen.state.keys seen.state.current (seen.number - 1))) r → IsTold (KeysSay limit bytes) r
+    by_answer : (r : Result (List KeyShape) KeyStop) → IsSo (Is (ended seen.state.keys seen.state.current (seen.number - 1))) r → IsSo (KeysSay limit bytes) r
     by_answer (Ok keys) e = goes_on {x = seen.state} judges (e ∙ ends)
     by_answer (Err NoMemory) e = tt
-    by_answer (Err (Refused refusal)) e = goes_on {x = seen.state} judges (e ∙ ends)
+    by_answer (Err (Fault refusal)) e = goes_on {x = seen.state} judges (e ∙ ends)

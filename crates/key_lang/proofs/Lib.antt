@@ -1,20 +1,20 @@
-pub mod AnswerLemmas
-pub mod StatementLemmas
-pub mod DifferLemmas
-pub mod WholeLemmas
-pub mod OnceLemmas
-pub mod GoodLemmas
-pub mod FairLemmas
-pub mod FairSteps
-pub mod LinesLemmas
-pub mod SeenLemmas
-pub mod KeysLemmas
-pub mod TextLemmas
-pub mod CursorLemmas
-pub mod LineForms
-pub mod SpelledLemmas
-pub mod ContentLemmas
-pub mod PlaceLemmas
-pub mod ReplayLemmas
-pub mod KeyAgain
-pub mod ReadBack
+mod AnswerLemmas
+pub mod CallerLemmas
+mod ContentLemmas
+mod CursorLemmas
+mod DifferLemmas
+mod FairLemmas
+mod FairSteps
+mod GoodLemmas
+mod KeyAgain
+mod KeysLemmas
+mod LineForms
+mod LinesLemmas
+mod OnceLemmas
+mod PlaceLemmas
+mod ReadBack
+mod ReplayLemmas
+mod SeenLemmas
+mod SpelledLemmas
+mod StatementLemmas
+mod WholeLemmas

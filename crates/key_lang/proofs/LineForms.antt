@@ -16,10 +16,11 @@ use Rattle.key_lang.specs.declared.keyword.Keyword.{Keyword}
 use Rattle.key_lang.specs.declared.open_key.Object.{Object}
 use Rattle.key_lang.specs.declared.open_key.Object.TheVariants.{Declared, Given}
 use Rattle.key_lang.specs.Answers.{Is, goes_on, yes, no}
-use Rattle.key_lang.specs.Tokens.{Skipping, is_word_byte, is_name, name_of, variable_of, NameSays, VariableSays, begins_iri, IriSays, begins_constant}
+use Rattle.key_file.specs.Name.{is_name}
+use Rattle.key_lang.specs.Tokens.{Skipping, is_word_byte, name_of, variable_of, NameSays, VariableSays, begins_iri, IriSays, begins_constant}
 use Rattle.key_lang.specs.OpenKey.{OpenShape, KeyState, is_named_so, begin, declare, link}
 use Rattle.key_lang.specs.Statements.{keyword_of, KeySays, typed_slot, TypedSays, slot_of_value, ValueSays, found, declared_of, DeclaredSays, begins_key_subject, is_sigil, ObjectSays, TripleSays, WordSays, StatementSays, begins_triple, KeyLineSays, text}
-use Rattle.key_lang.proofs.TextLemmas.{IsText}
+use Rattle.nt_reader.proofs.CallerLemmas.{IsText}
 use Rattle.key_lang.proofs.CursorLemmas.{At, at_first, at_byte, at_more, run_here, says_skip, says_word, says_close, says_term, name_all, name_first}
 
 -- an IRI, by its canonical text

@@ -1,22 +1,21 @@
 -- A line and a file say one thing.
 use Rattle.std.proofs.Common.{◌≡◌, ℕ, ◌+◌, Bool, true, false, List, [], ◌∷◌, Option, Some, None, Result, Ok, Err, refl, ap, subst}
 use Rattle.nt_lex.specs.Reading.{Says}
-use Rattle.nt_lex.proofs.ReadingLemmas.{says_once}
+use Rattle.nt_lex.proofs.CallerLemmas.{says_once}
 use Rattle.nt_reader.specs.File.{judged}
 use Rattle.key_file.specs.KeyShape.{KeyShape}
 use Rattle.key_lang.specs.declared.fault.KeyFault.{KeyFault}
 use Rattle.key_lang.specs.declared.fault.KeyRefusal.{KeyRefusal}
-use Rattle.key_lang.specs.declared.fault.KeyStop.{KeyStop}
-use Rattle.key_lang.specs.declared.fault.KeyStop.TheVariants.{NoMemory, Refused}
+use Rattle.key_lang.specs.Answers.{KeyStop, Is, Where}
+use Rattle.gk_base.specs.declared.stop.Stop.TheVariants.{NoMemory, Fault}
 use Rattle.key_lang.specs.declared.keyword.Keyword.{Keyword}
 use Rattle.key_lang.specs.declared.keyword.Keyword.TheVariants as word
-use Rattle.nt_lex.specs.Answers.{HasOne}
-use Rattle.key_lang.specs.Answers.{Is, Where}
+use Rattle.gk_base.specs.Answers.{HasOne, IsSo, Gives}
 use Rattle.key_lang.specs.declared.fault.KeyFault.TheVariants.{BadIri, UnknownStatement}
 use Rattle.key_lang.specs.Tokens.{Skipping, is_over, begins_iri, begins_constant, TokenSays, NameSays, VariableSays, IriSays}
 use Rattle.key_lang.specs.OpenKey.{OpenShape, KeyState}
 use Rattle.key_lang.specs.Statements.{KeySays, TypedSays, ValueSays, DeclaredSays, KeySubjectSays, ObjectSays, TripleSays, Changes, OutsideSays, InsideSays, PlacedSays, WordSays, LinkSays, keyword_of, StatementSays, KeyLineSays, no_text, text}
-use Rattle.key_lang.specs.KeyText.{LinesSay, none, faulty, good, start, KeysSay, IsTold, Tells}
+use Rattle.key_lang.specs.KeyText.{LinesSay, none, faulty, good, start, KeysSay}
 use Rattle.key_lang.proofs.AnswerLemmas.{is_once, then_once, where_once, skip_once, word_once, close_once, lexed_once}
 
 term_once : (begins : ℕ → Bool) (expected : KeyFault) (line : List ℕ) (at : ℕ) → HasOne (TokenSays begins expected line at)
@@ -120,8 +119,8 @@ pub keys_once : (limit : ℕ) (bytes : List ℕ) → HasOne (KeysSay limit bytes
 keys_once limit bytes = then_once _ _ (lines_once (judged limit bytes) start 1) (λ state. is_once _)
 
 -- what a file says was answered
-pub only_told : (limit : ℕ) (bytes : List ℕ) (r : Result (List KeyShape) KeyStop) → IsTold (KeysSay limit bytes) r → (answer : Result (List KeyShape) KeyRefusal)
-    → KeysSay limit bytes answer → Tells r answer
+pub only_told : (limit : ℕ) (bytes : List ℕ) (r : Result (List KeyShape) KeyStop) → IsSo (KeysSay limit bytes) r → (answer : Result (List KeyShape) KeyRefusal)
+    → KeysSay limit bytes answer → Gives r answer
 only_told limit bytes (Ok keys) so answer says = keys_once limit bytes (Ok keys) answer so says
 only_told limit bytes (Err NoMemory) so answer says = tt
-only_told limit bytes (Err (Refused refusal)) so answer says = keys_once limit bytes (Err refusal) answer so says
+only_told limit bytes (Err (Fault refusal)) so answer says = keys_once limit bytes (Err refusal) answer so says

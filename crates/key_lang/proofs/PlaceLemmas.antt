@@ -8,9 +8,9 @@ use Rattle.std.proofs.lemmas.Option.{get_or_from_slice_get, slice_get_within}
 use Rattle.std.specs.Cmp.Lexicographic.{bytes_decides}
 use Rattle.std.specs.List.{list_all, list_any, position_or_len}
 use Rattle.gk_base.specs.declared.term.Term.{Term}
-use Rattle.chase_laws.proofs.Lists.{slice_get-within}
+use Rattle.chase_laws.proofs.CallerLemmas.{slice_get-within}
 use Rattle.term_table.specs.Numbering.{same_term}
-use Rattle.term_table.proofs.NumberingLemmas.{same_term-Decides}
+use Rattle.term_table.proofs.CallerLemmas.{same_term-Decides}
 use Rattle.key_file.specs.declared.slot.KeySlot.{KeySlot}
 use Rattle.key_file.specs.declared.slot.KeySlot.TheVariants.{Entity, Any, Value, Folded, Fixed}
 use Rattle.key_file.specs.Key.{may_be_subject, same_slot, all_differ}

@@ -7,7 +7,7 @@ use Rattle.gk_base.specs.declared.term.Term.{Term}
 use Rattle.term_table.specs.Numbering.{same_term}
 use Rattle.nt_reader.specs.Lines.{Lined, cut_of, last_of, lines}
 use Rattle.nt_reader.specs.File.{judged}
-use Rattle.nt_reader.proofs.LinedLemmas.{cut_lined, lined_once}
+use Rattle.nt_reader.proofs.CallerLemmas.{cut_lined, lined_once}
 use Rattle.key_file.specs.declared.slot.KeySlot.{KeySlot}
 use Rattle.key_file.specs.declared.slot.KeySlot.TheVariants.{Entity, Any}
 use Rattle.key_file.specs.KeyShape.{KeyShape}
@@ -23,8 +23,9 @@ use Rattle.key_lang.specs.declared.open_key.OpenEdge.{OpenEdge}
 use Rattle.key_lang.specs.declared.open_key.Object.{Object}
 use Rattle.key_lang.specs.declared.open_key.Object.TheVariants.{Declared, Given}
 use Rattle.key_lang.specs.Answers.{Is, goes_on}
-use Rattle.key_lang.specs.Tokens.{Skipping, is_name, NameSays, VariableSays, IriSays, ConstantSays, Closes, is_over}
-use Rattle.key_lang.specs.OpenKey.{OpenShape, KeyState, nodes, sigil_of, slot_name, is_named_so, begin, declare, same_end, same_triple, add, placed_at, led, link, whole, all_used, finish}
+use Rattle.key_file.specs.Name.{is_name}
+use Rattle.key_lang.specs.Tokens.{Skipping, NameSays, VariableSays, IriSays, ConstantSays, Closes, is_over}
+use Rattle.key_lang.specs.OpenKey.{OpenShape, KeyState, nodes, sigil_of, slot_name, is_named_so, begin, declare, same_end, same_triple, add, constant_or_new, link_constant, link, whole, all_used, finish}
 use Rattle.key_lang.specs.Statements.{KeySays, typed_slot, TypedSays, slot_of_value, ValueSays, DeclaredSays, KeySubjectSays, ObjectSays, TripleSays, Changes, KeyEndSays, OutsideSays, InsideSays, WordSays, LinkSays, keyword_of, StatementSays, KeyLineSays, no_text, text}
 use Rattle.key_lang.specs.KeyText.{LinesSay, none, good, start, ended, KeysSay}
 use Rattle.key_lang.specs.Fair.{leads, is_inside, IsFair, IsFairBeside, IsFairState}
@@ -32,10 +33,10 @@ use Rattle.key_lang.specs.CanonicalKeys.{key_text, keys_text}
 use Rattle.key_lang.proofs.GoodLemmas.{Good, Keeps, good_if, keeps_is, keeps_then, keeps_where, keeps_skip, keeps_word, keeps_close}
 use Rattle.key_lang.proofs.FairSteps.{line_keeps}
 use Rattle.key_lang.proofs.LinesLemmas.{lines_append}
-use Rattle.key_lang.proofs.TextLemmas.{IsText}
+use Rattle.nt_reader.proofs.CallerLemmas.{AllOf, joined, joined_lined, with_end, IsText}
 use Rattle.key_lang.proofs.LineForms.{IsIri, IsGiven}
 use Rattle.key_lang.proofs.SpelledLemmas.{IsNamed, iri_keeps, constant_keeps, name_keeps, variable_keeps}
-use Rattle.key_lang.proofs.ContentLemmas.{AllOf, all_of_append, with_end, joined, joined_lined, GoodSlot}
+use Rattle.key_lang.proofs.ContentLemmas.{all_of_append, GoodSlot}
 use Rattle.key_lang.proofs.ReplayLemmas.{Grows, done, variable, known, new, grows_append}
 use Rattle.key_lang.proofs.KeyAgain.{IsSpelled, contents, contents_say, contents_text, contents_plain}
 
@@ -113,7 +114,7 @@ module _ (key : OpenShape) (s : IsSpelled key) where
         let parts = and_parts _ _ a in
         or_from _ _ (false_from_ne_true _ (λ h. true≢false (sym (and_parts _ _ h).1 ∙ ends_apart e.to (and_parts _ _ parts.0).1))) (unlinked es parts.1)
 
-    by_place : (t : Term) → IsGiven t → (o : Option ℕ) → position (same_term t) key.constants ≡ o → Good IsSpelled (led from pred (placed_at key t o))
+    by_place : (t : Term) → IsGiven t → (o : Option ℕ) → position (same_term t) key.constants ≡ o → Good IsSpelled (link_constant from pred (constant_or_new key t o))
     by_place t g (Some place) at = add_spelled (record { from = from; pred = pred; to = Constant place }) i (known _ place t refl g at done)
     by_place t g None at =
         let grown : OpenShape = record key { constants = key.constants ++ t ∷ [] } in
@@ -122,7 +123,7 @@ module _ (key : OpenShape) (s : IsSpelled key) where
         e : OpenEdge
         e = record { from = from; pred = pred; to = Constant (length key.constants) }
 
-        by_room : (grown : OpenShape) (b : Bool) → Good IsSpelled (led from pred (cond b (Ok (record key { constants = key.constants ++ t ∷ [] }, length key.constants)) (Err TooManyNodes)))
+        by_room : (grown : OpenShape) (b : Bool) → Good IsSpelled (link_constant from pred (cond b (Ok (record key { constants = key.constants ++ t ∷ [] }, length key.constants)) (Err TooManyNodes)))
         by_room grown false = tt
         by_room grown true =
             let with : OpenShape = record key { constants = key.constants ++ t ∷ [] } in

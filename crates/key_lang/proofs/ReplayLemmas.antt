@@ -3,9 +3,9 @@ use Rattle.std.proofs.Common.{◌≡◌, ℕ, zero, suc, ◌+◌, ◌<◌, Bool,
 use Rattle.std.proofs.lemmas.Bool.{and_parts, and_from, or_parts, or_from, cond-true, cond-false, ltb-true, lt-ltb, not-true, false_from_ne_true, true≢false, eqb-true, eq-eqb}
 use Rattle.std.specs.List.{list_all, list_any}
 use Rattle.gk_base.specs.declared.term.Term.{Term}
-use Rattle.chase_laws.proofs.Lists.{slice_get-within}
+use Rattle.chase_laws.proofs.CallerLemmas.{slice_get-within}
 use Rattle.term_table.specs.Numbering.{same_term}
-use Rattle.term_table.proofs.NumberingLemmas.{same_term-Decides, slice_get-append_left, slice_get-push}
+use Rattle.term_table.proofs.CallerLemmas.{same_term-Decides, slice_get-append_left, slice_get-push}
 use Rattle.term_text.specs.CanonicalText.{term_text}
 use Rattle.key_file.specs.declared.slot.KeySlot.{KeySlot}
 use Rattle.key_file.specs.declared.slot.KeySlot.TheVariants.{Entity, Any, Value, Folded, Fixed}
@@ -17,16 +17,16 @@ use Rattle.key_lang.specs.declared.open_key.End.TheVariants.{Variable, Constant}
 use Rattle.key_lang.specs.declared.open_key.OpenEdge.{OpenEdge}
 use Rattle.key_lang.specs.declared.open_key.Object.{Object}
 use Rattle.key_lang.specs.declared.open_key.Object.TheVariants.{Declared, Given}
-use Rattle.key_lang.specs.Tokens.{is_name}
-use Rattle.key_lang.specs.OpenKey.{OpenShape, KeyState, nodes, sigil_of, slot_name, same_end, same_triple, add, placed_at, led, link, slot_of_end, key_edge, whole}
+use Rattle.key_file.specs.Name.{is_name}
+use Rattle.key_lang.specs.OpenKey.{OpenShape, KeyState, nodes, sigil_of, slot_name, same_end, same_triple, add, constant_or_new, link_constant, link, slot_of_end, key_edge, whole}
 use Rattle.key_lang.specs.Statements.{KeyLineSays}
 use Rattle.key_lang.specs.KeyText.{LinesSay, none, good}
 use Rattle.key_lang.specs.Fair.{is_no_constant, leads, is_inside, IsFair}
 use Rattle.key_lang.specs.CanonicalKeys.{node_at}
 use Rattle.key_lang.proofs.WholeLemmas.{some_subject}
-use Rattle.key_lang.proofs.TextLemmas.{IsText}
+use Rattle.nt_reader.proofs.CallerLemmas.{AllOf, IsText}
 use Rattle.key_lang.proofs.LineForms.{IsIri, IsGiven, NamesObject, given_named, variable_named, triple_says, triple_line}
-use Rattle.key_lang.proofs.ContentLemmas.{AllOf, GoodSlot, GoodNode, triple_content, text_node_at, text_triple}
+use Rattle.key_lang.proofs.ContentLemmas.{GoodSlot, GoodNode, triple_content, text_node_at, text_triple}
 use Rattle.key_lang.proofs.PlaceLemmas.{variable_place, node_variable, slot_sigil, subject_sigil, term_at, slice_get-map, slice_get-right}
 
 -- from constants that are there, triples in order lead to variables, to constants that are there, or to a new one each
@@ -195,7 +195,7 @@ module _ (keys : List KeyShape) (key : OpenShape) (fair : IsFair key) (slots : A
       let this = and_parts _ _ parts.0 in
       let here : slice_get key.constants place ≡ Some t = ap (λ (l : List Term). slice_get l place) (sym same) ∙ stays_at cs ds es g place t (term_at cs t place at) in
       good (step cs cs before e (Given t) (Fixed t) (length key.variables + place) this.0 iris.0 (ap (slot_of_end (length key.variables)) to) (constant_in_all place t here) given (to_constant cs before place t given here)
-      (ap (λ o. led e.from e.pred (placed_at (part key cs before) t o)) at ∙ ap (add (part key cs before)) (edge_to e (Constant place) to) ∙ more before e es cs split))
+      (ap (λ o. link_constant e.from e.pred (constant_or_new (part key cs before) t o)) at ∙ ap (add (part key cs before)) (edge_to e (Constant place) to) ∙ more before e es cs split))
       (replay (before ++ e ∷ []) es cs ds (n + 1) (split ∙ sym (append_assoc before (e ∷ []) es)) parts.1 iris.1 g same)
   replay before (e ∷ es) cs ds n split inside iris (new e' t to given at g) same =
       let parts = and_parts _ _ inside in
@@ -205,8 +205,8 @@ module _ (keys : List KeyShape) (key : OpenShape) (fair : IsFair key) (slots : A
       let kept = stay grown ds es g in
       let room : nodes (part key cs before) < 16 = omega (arith, fair.few_nodes, ap length same, ap length kept.1, length-append grown kept.0, length-append cs (t ∷ [])) in
       good (step cs grown before e (Given t) (Fixed t) (length key.variables + length cs) this.0 iris.0 (ap (slot_of_end (length key.variables)) to) (constant_in_all (length cs) t here) given (to_constant cs before (length cs) t given here)
-      (ap (λ o. led e.from e.pred (placed_at (part key cs before) t o)) at
-      ∙ ap (led e.from e.pred) (cond-true (nat_lt (nodes (part key cs before)) 16) (Ok (part key grown before, length cs)) (Err TooManyNodes) (lt-ltb _ _ room))
+      (ap (λ o. link_constant e.from e.pred (constant_or_new (part key cs before) t o)) at
+      ∙ ap (link_constant e.from e.pred) (cond-true (nat_lt (nodes (part key cs before)) 16) (Ok (part key grown before, length cs)) (Err TooManyNodes) (lt-ltb _ _ room))
       ∙ ap (add (part key grown before)) (edge_to e (Constant (length cs)) to) ∙ more before e es grown split))
       (replay (before ++ e ∷ []) es grown ds (n + 1) (split ∙ sym (append_assoc before (e ∷ []) es)) parts.1 iris.1 g same)
 

@@ -3,8 +3,7 @@ use Rattle.std.proofs.Common.{◌≡◌, ℕ, ◌+◌, ◌-◌, ◌<◌, ◌≤�
 use Rattle.std.proofs.lemmas.List.{take-append-drop, take_more, take_all, drop_all, length-drop}
 use Rattle.nt_lex.specs.Scans.{IsRunAt}
 use Rattle.nt_reader.specs.Lines.{Cut, cut_of, is_line_byte}
-use Rattle.nt_reader.proofs.CutLemmas.{cut_append, some_plain, whole_line, swallowed, ended_grows}
-use Rattle.nt_reader.proofs.StateLemmas.{take_part, length-range, range_passes, take_line}
+use Rattle.nt_reader.proofs.CallerLemmas.{cut_append, some_plain, whole_line, swallowed, ended_grows, take_part, length-range, range_passes, take_line}
 use Rattle.key_lang.specs.declared.fault.KeyRefusal.{KeyRefusal}
 use Rattle.key_lang.specs.declared.file.Seen.{Seen}
 use Rattle.key_lang.specs.OpenKey.{KeyState}

@@ -9,10 +9,12 @@ use Rattle.gk_base.specs.declared.term.Term.TheVariants.{Iri}
 use Rattle.nt_lex.specs.Spelling.{xsd_string, SpellsSuffix, plain, typed, tagged, Spells, iri, blank, literal}
 use Rattle.nt_lex.specs.Reading.{Says, TermStops}
 use Rattle.term_text.specs.CanonicalText.{term_text}
-use Rattle.term_text.proofs.ReadBack.{spelled_whole}
+use Rattle.term_text.proofs.CallerLemmas.{spelled_whole}
+use Rattle.gk_base.specs.Answers.{Gives}
 use Rattle.key_lang.specs.declared.fault.KeyFault.TheVariants.{BadName}
 use Rattle.key_lang.specs.Answers.{Lexed, reads, fails}
-use Rattle.key_lang.specs.Tokens.{is_name, is_variable, variable_of, NameSays, VariableSays, begins_iri, IriSays, begins_constant, ConstantSays}
+use Rattle.key_file.specs.Name.{is_name}
+use Rattle.key_lang.specs.Tokens.{is_variable, variable_of, NameSays, VariableSays, begins_iri, IriSays, begins_constant, ConstantSays}
 use Rattle.key_lang.proofs.GoodLemmas.{Good, Keeps, good_if, keeps_is, keeps_where, keeps_word}
 use Rattle.key_lang.proofs.LineForms.{IsIri, IsGiven}
 
@@ -65,9 +67,9 @@ given_kind piece rest line at t (literal {string = string} {form = form} {suffix
     record { spells = w.spells; stops = w.stops; head = 0x22; more = q.0; first = q.1; begins = refl }
 
 -- what the tokens of a line are
-lexed_keeps : {A : Type 0} (P : A → Type 0) (Tells : Result A LexFault → Type 0) → ((x : A) → Tells (Ok x) → P x) → Keeps P (Lexed {A = A} Tells)
-lexed_keeps {A} P Tells h answer (reads {x = x} r) = h x r
-lexed_keeps {A} P Tells h answer (fails f) = tt
+lexed_keeps : {A : Type 0} (P : A → Type 0) (Gives : Result A LexFault → Type 0) → ((x : A) → Gives (Ok x) → P x) → Keeps P (Lexed {A = A} Gives)
+lexed_keeps {A} P Gives h answer (reads {x = x} r) = h x r
+lexed_keeps {A} P Gives h answer (fails f) = tt
 
 pub iri_keeps : (line : List ℕ) (at : ℕ) → Keeps (λ r. IsIri r.0) (IriSays line at)
 iri_keeps line at =

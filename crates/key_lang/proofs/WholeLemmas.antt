@@ -6,7 +6,7 @@ use Rattle.std.proofs.lemmas.List.Sums.{AllPass-from_list_all}
 use Rattle.std.specs.List.{list_all, list_any}
 use Rattle.gk_base.specs.declared.term.Term.{Term}
 use Rattle.term_table.specs.Numbering.{same_term}
-use Rattle.term_table.proofs.NumberingLemmas.{slice_get-append}
+use Rattle.term_table.proofs.CallerLemmas.{slice_get-append}
 use Rattle.key_file.specs.declared.slot.KeySlot.{KeySlot}
 use Rattle.key_file.specs.declared.slot.KeySlot.TheVariants.{Entity, Any, Value, Folded, Fixed}
 use Rattle.key_file.specs.declared.edge.KeyEdge.{KeyEdge}

@@ -2,10 +2,10 @@
 -- answer is to be given. This project's own words.
 use Rattle.std.specs.Prelude.{◌≡◌, Bool, true, false, Result, Ok, Err}
 use Rattle.gk_base.specs.declared.lex_fault.LexFault.{LexFault}
+use Rattle.gk_base.specs.declared.stop.Stop.{Stop}
 use Rattle.key_lang.specs.declared.fault.KeyFault.{KeyFault}
+use Rattle.key_lang.specs.declared.fault.KeyRefusal.{KeyRefusal}
 use Rattle.key_lang.specs.Faults.{fault_of_term}
-use Rattle.key_lang.specs.declared.fault.LineStop.{LineStop}
-use Rattle.key_lang.specs.declared.fault.LineStop.TheVariants.{NoMemory, Fault}
 
 -- this very answer
 abbrev pub Is : {A F : Type 0} → Result A F → Result A F → Type 0
@@ -26,8 +26,10 @@ pub data Lexed {A : Type 0} (Says : Result A LexFault → Type 0) : Result A Key
   reads : {x : A} → Says (Ok x) → Lexed Says (Ok x)
   fails : {fault : LexFault} → Says (Err fault) → Lexed Says (Err (fault_of_term fault))
 
--- what was answered for a line, or for a part of it, is to be answered; want of memory may come at any time
-abbrev pub AnswersLine : {A : Type 0} → (Result A KeyFault → Type 0) → Result A LineStop → Type 0
-AnswersLine Says (Ok x) = Says (Ok x)
-AnswersLine Says (Err NoMemory) = Unit {0}
-AnswersLine Says (Err (Fault fault)) = Says (Err fault)
+-- why a key file was not read
+abbrev pub KeyStop : Type 0
+KeyStop = Stop KeyRefusal
+
+-- why a line, or a part of it, was not read
+abbrev pub LineStop : Type 0
+LineStop = Stop KeyFault

@@ -7,9 +7,8 @@ use Rattle.key_file.specs.KeyShape.{KeyShape}
 use Rattle.key_lang.specs.declared.fault.KeyFault.{KeyFault}
 use Rattle.key_lang.specs.declared.fault.KeyFault.TheVariants.{FileEndsInsideAKey, FileTooLong}
 use Rattle.key_lang.specs.declared.fault.KeyRefusal.{KeyRefusal}
-use Rattle.key_lang.specs.declared.fault.KeyStop.{KeyStop}
-use Rattle.key_lang.specs.declared.fault.KeyStop.TheVariants.{NoMemory, Refused}
-use Rattle.key_lang.specs.Answers.{Is, Then}
+use Rattle.key_lang.specs.Answers.{KeyStop, Is, Then}
+use Rattle.gk_base.specs.declared.stop.Stop.TheVariants.{NoMemory, Fault}
 use Rattle.key_lang.specs.OpenKey.{OpenShape, KeyState}
 use Rattle.key_lang.specs.Statements.{KeyLineSays}
 
@@ -39,15 +38,3 @@ after_lines limit bytes state =
 -- the keys of a file of at most so many bytes, or its refusal: the lines that end within the limit are judged first
 abbrev pub KeysSay : ℕ → List ℕ → Result (List KeyShape) KeyRefusal → Type 0
 KeysSay limit bytes answer = Then (LinesSay start 1 (judged limit bytes)) (λ state. Is (after_lines limit bytes state)) answer
-
--- what was answered for a file is to be answered; want of memory may come at any time
-abbrev pub IsTold : {A : Type 0} → (Result A KeyRefusal → Type 0) → Result A KeyStop → Type 0
-IsTold Says (Ok x) = Says (Ok x)
-IsTold Says (Err NoMemory) = Unit {0}
-IsTold Says (Err (Refused refusal)) = Says (Err refusal)
-
--- this was answered for a file, or memory ran out
-abbrev pub Tells : {A : Type 0} → Result A KeyStop → Result A KeyRefusal → Type 0
-Tells (Ok x) answer = Ok x ≡ answer
-Tells (Err NoMemory) answer = Unit {0}
-Tells (Err (Refused refusal)) answer = Err refusal ≡ answer

@@ -91,25 +91,25 @@ add key edge =
     else Err TooManyTriplesInKey
 
 -- the key with a constant that is there at this place, or is a new node
-abbrev pub placed_at : OpenShape → Term → Option ℕ → Result (OpenShape × ℕ) KeyFault
-placed_at key term (Some place) = Ok (key, place)
-placed_at key term None =
+abbrev pub constant_or_new : OpenShape → Term → Option ℕ → Result (OpenShape × ℕ) KeyFault
+constant_or_new key term (Some place) = Ok (key, place)
+constant_or_new key term None =
     if nat_lt (nodes key) most_nodes then Ok (record key { constants = key.constants ++ term ∷ [] }, length key.constants)
     else Err TooManyNodes
 
 -- the key with a constant, and the constant's place
 abbrev pub placed_constant : OpenShape → Term → Result (OpenShape × ℕ) KeyFault
-placed_constant key term = placed_at key term (position (same_term term) key.constants)
+placed_constant key term = constant_or_new key term (position (same_term term) key.constants)
 
 -- the key with a triple to the constant at a place
-abbrev pub led : ℕ → Term → Result (OpenShape × ℕ) KeyFault → Result OpenShape KeyFault
-led from pred (Ok placed) = add placed.0 (record { from = from; pred = pred; to = Constant placed.1 })
-led from pred (Err fault) = Err fault
+abbrev pub link_constant : ℕ → Term → Result (OpenShape × ℕ) KeyFault → Result OpenShape KeyFault
+link_constant from pred (Ok placed) = add placed.0 (record { from = from; pred = pred; to = Constant placed.1 })
+link_constant from pred (Err fault) = Err fault
 
 -- a triple from this variable, by its place, to a declared variable or to a constant
 abbrev pub link : OpenShape → ℕ → Term → Object → Result OpenShape KeyFault
 link key from pred (Declared place) = add key (record { from = from; pred = pred; to = Variable place })
-link key from pred (Given term) = led from pred (placed_constant key term)
+link key from pred (Given term) = link_constant from pred (placed_constant key term)
 
 -- the slot of an end: the variables come first, then the constants
 abbrev pub slot_of_end : ℕ → End → ℕ

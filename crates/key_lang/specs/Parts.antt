@@ -1,13 +1,13 @@
 -- What the private functions answer: this project's own words.
 use Rattle.std.specs.Prelude.{◌≡◌, ℕ, Bool, List, Some, Result, Ok, Err}
 use Rattle.gk_base.specs.declared.term.Term.{Term}
-use Rattle.gk_base.specs.declared.lex_fault.LexStop.{LexStop}
-use Rattle.gk_base.specs.declared.lex_fault.LexStop.TheVariants as lex
+use Rattle.gk_base.specs.Answers.{LexStop}
+use Rattle.gk_base.specs.declared.stop.Stop.TheVariants as lex
 use Rattle.nt_lex.specs.Chars.{is_blank}
 use Rattle.nt_lex.specs.Scans.{IsRunAt}
 use Rattle.key_lang.specs.Faults.{fault_of_term}
-use Rattle.key_lang.specs.declared.fault.LineStop.{LineStop}
-use Rattle.key_lang.specs.declared.fault.LineStop.TheVariants.{NoMemory, Fault}
+use Rattle.key_lang.specs.Answers.{LineStop}
+use Rattle.gk_base.specs.declared.stop.Stop.TheVariants.{NoMemory, Fault}
 use Rattle.key_file.specs.KeyShape.{KeyShape}
 use Rattle.key_lang.specs.OpenKey.{OpenShape, KeyState}
 use Rattle.key_lang.specs.Tokens.{is_over}

@@ -13,7 +13,8 @@ use Rattle.key_lang.specs.declared.open_key.Object.TheVariants.{Declared, Given}
 use Rattle.key_lang.specs.declared.keyword.Keyword.{Keyword}
 use Rattle.key_lang.specs.declared.keyword.Keyword.TheVariants as word
 use Rattle.key_lang.specs.Answers.{Is, Then, Where}
-use Rattle.key_lang.specs.Tokens.{Skipping, WithWord, Closes, is_over, is_name, NameSays, VariableSays, IriSays, ConstantSays}
+use Rattle.key_file.specs.Name.{is_name}
+use Rattle.key_lang.specs.Tokens.{Skipping, WithWord, Closes, is_over, NameSays, VariableSays, IriSays, ConstantSays}
 use Rattle.key_lang.specs.OpenKey.{OpenShape, KeyState, is_named_so, begin, declare, link, finish}
 
 -- the first words

@@ -1,11 +1,11 @@
 -- The tokens of a line of a key file, by their places: words, names, variables, and the IRIs and literals of N-Triples
 -- (RDF 1.1 N-Triples, section 7). Tabs and spaces part them. The forms are this project's own.
-use Rattle.std.specs.Prelude.{ℕ, ◌&&◌, ◌||◌, ◌==◌, not, nat_le, Bool, false, List, [], ◌∷◌, length, drop, slice_index, slice_range, if◌then◌else◌, Result, Ok, Err}
-use Rattle.std.specs.List.{list_all}
+use Rattle.std.specs.Prelude.{ℕ, ◌&&◌, ◌||◌, ◌==◌, not, Bool, false, List, [], ◌∷◌, length, drop, slice_index, slice_range, if◌then◌else◌, Result, Ok, Err}
 use Rattle.gk_base.specs.declared.term.Term.{Term}
-use Rattle.nt_lex.specs.Chars.{is_between, is_blank, is_digit}
+use Rattle.nt_lex.specs.Chars.{is_blank}
 use Rattle.nt_lex.specs.Scans.{IsRunAt}
 use Rattle.nt_lex.specs.Reading.{Says}
+use Rattle.key_file.specs.Name.{is_name}
 use Rattle.key_lang.specs.declared.fault.KeyFault.{KeyFault}
 use Rattle.key_lang.specs.declared.fault.KeyFault.TheVariants.{BadIri, UnknownStatement, BadName}
 use Rattle.key_lang.specs.Answers.{Is, Where, Lexed}
@@ -33,14 +33,6 @@ is_over line at = at == length line || slice_index line at == 0x23
 -- nothing but a comment comes after the last token, and then this
 abbrev pub Closes : {A : Type 0} → List ℕ → ℕ → (Result A KeyFault → Type 0) → Result A KeyFault → Type 0
 Closes line at Says answer = Skipping line at (λ next. Where (is_over line next) Says (Is (Err UnknownStatement))) answer
-
--- a to z, 0 to 9 and _
-abbrev pub is_name_byte : ℕ → Bool
-is_name_byte b = is_between 0x61 0x7A b || is_digit b || b == 0x5F
-
--- a name: 1 to 32 of these
-abbrev pub is_name : List ℕ → Bool
-is_name word = nat_le 1 (length word) && nat_le (length word) 32 && list_all is_name_byte word
 
 -- the name that a word is, and the place after it
 abbrev pub name_of : List ℕ → ℕ → Result (List ℕ × ℕ) KeyFault

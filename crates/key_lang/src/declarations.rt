@@ -2,7 +2,8 @@
 
 ghost use Rattle.std.specs.Prelude.{◌≡◌, ◌<◌, ◌≤◌, length, IsUtf8, Some};
 ghost use Rattle.key_file.specs.KeyShape.{KeyShape};
-ghost use Rattle.key_lang.specs.Answers.{Is, AnswersLine};
+ghost use Rattle.gk_base.specs.Answers.{IsSo};
+ghost use Rattle.key_lang.specs.Answers.{Is};
 ghost use Rattle.key_lang.specs.OpenKey.{OpenShape, begin};
 ghost use Rattle.key_lang.specs.Statements.{KeySays, TypedSays, typed_slot, ValueSays, slot_of_value};
 
@@ -16,7 +17,7 @@ use std::alloc::Global;
 
 /// The file with a key that begins.
 fn begin(alloc: Global, keys: KeyFile, name: Text, kind: Term) -> Result<Progress, LineStop>
-    ensures { AnswersLine (Is (begin keys name kind)) result }
+    ensures { IsSo (Is (begin keys name kind)) result }
 {
     if keys.has_name(name.bytes()) {
         return Err(LineStop::Fault(KeyFault::NameUsedTwice));
@@ -44,22 +45,17 @@ pub(crate) fn key_statement(
 ) -> Result<Progress, LineStop>
     requires inside { at ≤ length line.now }
     requires utf8 { IsUtf8 line.now }
-    ensures { AnswersLine (KeySays keys line.now at) result }
+    ensures { IsSo (KeySays keys line.now at) result }
 {
-    let (name, end) = match read_name(alloc, line, at) {
-        Ok(read) => read,
-        Err(stop) => return Err(stop),
-    };
-    let (kind, end) = match read_type(alloc, line, end) {
-        Ok(read) => read,
-        Err(stop) => return Err(stop),
-    };
+    let (name, end) = read_name(alloc, line, at)?;
+    let (kind, end) = read_type(alloc, line, end)?;
     if !closes(line, end) {
         return Err(LineStop::Fault(KeyFault::UnknownStatement));
     }
     begin(alloc, keys, name, kind)
 }
 
+/// A variable of this type: an entity variable or a wildcard, by its sigil.
 fn typed_slot(sigil: u8, name: Text, kind: Term) -> KeySlot
     ensures { result ≡ typed_slot sigil name kind }
 {
@@ -80,22 +76,17 @@ pub(crate) fn typed_statement(
 ) -> Result<OpenKey, LineStop>
     requires inside { at ≤ length line.now }
     requires utf8 { IsUtf8 line.now }
-    ensures { AnswersLine (TypedSays sigil key line.now at) result }
+    ensures { IsSo (TypedSays sigil key line.now at) result }
 {
-    let (name, end) = match read_variable(alloc, sigil, line, at) {
-        Ok(read) => read,
-        Err(stop) => return Err(stop),
-    };
-    let (kind, end) = match read_type(alloc, line, end) {
-        Ok(read) => read,
-        Err(stop) => return Err(stop),
-    };
+    let (name, end) = read_variable(alloc, sigil, line, at)?;
+    let (kind, end) = read_type(alloc, line, end)?;
     if !closes(line, end) {
         return Err(LineStop::Fault(KeyFault::UnknownStatement));
     }
     declare(key, typed_slot(sigil, name, kind))
 }
 
+/// A value variable, folded or not.
 fn slot_of_value(folded: bool, name: Text) -> KeySlot
     ensures { result ≡ slot_of_value folded name }
 {
@@ -115,12 +106,9 @@ pub(crate) fn value_statement(
     at: usize,
 ) -> Result<OpenKey, LineStop>
     requires { at ≤ length line.now }
-    ensures { AnswersLine (ValueSays folded key line.now at) result }
+    ensures { IsSo (ValueSays folded key line.now at) result }
 {
-    let (name, end) = match read_variable(alloc, b'$', line, at) {
-        Ok(read) => read,
-        Err(stop) => return Err(stop),
-    };
+    let (name, end) = read_variable(alloc, b'$', line, at)?;
     if !closes(line, end) {
         return Err(LineStop::Fault(KeyFault::UnknownStatement));
     }

@@ -5,7 +5,8 @@ ghost use Rattle.std.specs.List.{list_all, range_with_len};
 ghost use Rattle.key_file.specs.declared.slot.KeySlot.TheVariants.{Fixed};
 ghost use Rattle.key_file.specs.Key.{is_used};
 ghost use Rattle.key_file.specs.KeyFile.{has_name};
-ghost use Rattle.key_lang.specs.Answers.{Is, AnswersLine};
+ghost use Rattle.gk_base.specs.Answers.{IsSo};
+ghost use Rattle.key_lang.specs.Answers.{Is};
 ghost use Rattle.key_lang.specs.OpenKey.{slot_of_end, key_edge, finish};
 ghost use Rattle.key_lang.specs.Fair.{IsFair, IsFairBeside};
 ghost use Rattle.key_lang.specs.Statements.{KeyEndSays};
@@ -79,7 +80,7 @@ fn all_used(edges: &[KeyEdge], slots: usize) -> bool
 /// The key that ends.
 fn finish(alloc: Global, key: OpenKey) -> Result<KeyDef, LineStop>
     requires { IsFair key }
-    ensures { AnswersLine (Is (finish key)) result }
+    ensures { IsSo (Is (finish key)) result }
 {
     if key.edges.as_slice().is_empty() {
         return Err(LineStop::Fault(KeyFault::KeyWithoutTriples));
@@ -112,20 +113,16 @@ pub(crate) fn end_statement(
 ) -> Result<Progress, LineStop>
     requires inside { at ≤ length line.now }
     requires fair { IsFairBeside keys key }
-    ensures { AnswersLine (KeyEndSays keys key line.now at) result }
+    ensures { IsSo (KeyEndSays keys key line.now at) result }
 {
     if !closes(line, at) {
         return Err(LineStop::Fault(KeyFault::UnknownStatement));
     }
-    match finish(alloc, key) {
-        Ok(whole) => {
-            let mut keys = keys;
-            keys.push(whole)?;
-            Ok(Progress {
-                keys,
-                current: None,
-            })
-        }
-        Err(stop) => Err(stop),
-    }
+    let whole = finish(alloc, key)?;
+    let mut keys = keys;
+    keys.push(whole)?;
+    Ok(Progress {
+        keys,
+        current: None,
+    })
 }

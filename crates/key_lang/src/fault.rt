@@ -3,8 +3,7 @@
 ghost use Rattle.std.specs.Prelude.{◌≡◌};
 ghost use Rattle.key_lang.specs.Faults.{key_fault_text, fault_of_term};
 
-use gk_base::{LexFault, NoMemory};
-use std::alloc::{AllocError, AllocFailed};
+use gk_base::{LexFault, Stop};
 
 /// What is wrong with a line of a key file. The first seven are faults of terms, which stand in key files as in
 /// N-Triples.
@@ -119,45 +118,7 @@ pub struct KeyRefusal {
 }
 
 /// Why a key file was not read.
-#[derive(Clone, Copy, Debug, PartialEq, Eq)]
-pub enum KeyStop {
-    NoMemory,
-    Refused(KeyRefusal),
-}
+pub type KeyStop = Stop<KeyRefusal>;
 
 /// Why a line, or a part of it, was not read.
-#[derive(Clone, Copy, Debug, PartialEq, Eq)]
-pub enum LineStop {
-    NoMemory,
-    Fault(KeyFault),
-}
-
-impl From<NoMemory> for LineStop {
-    ghost use Rattle.key_lang.specs.declared.fault.LineStop.TheVariants as stop;
-
-    ghost from_gives = { λ _ e. e ≡ stop.NoMemory };
-
-    fn from(_: NoMemory) -> Self {
-        LineStop::NoMemory
-    }
-}
-
-impl From<AllocError> for LineStop {
-    ghost use Rattle.key_lang.specs.declared.fault.LineStop.TheVariants as stop;
-
-    ghost from_gives = { λ _ e. e ≡ stop.NoMemory };
-
-    fn from(_: AllocError) -> Self {
-        LineStop::NoMemory
-    }
-}
-
-impl<T: Drop> From<AllocFailed<T>> for LineStop {
-    ghost use Rattle.key_lang.specs.declared.fault.LineStop.TheVariants as stop;
-
-    ghost from_gives = { λ _ e. e ≡ stop.NoMemory };
-
-    fn from(_: AllocFailed<T>) -> Self {
-        LineStop::NoMemory
-    }
-}
+pub(crate) type LineStop = Stop<KeyFault>;

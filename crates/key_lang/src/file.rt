@@ -1,14 +1,15 @@
-//! A whole key file.
+//! Reads a whole key file: its keys, or the first refused line.
 
 ghost use Rattle.std.specs.Prelude.{◌≡◌, ℕ, ◌+◌, ◌-◌, ◌<◌, ◌≤◌, ◌^◌, List, length, take, Result, Ok, Err};
 ghost use Rattle.nt_lex.specs.Scans.{IsRunAt};
 ghost use Rattle.nt_reader.specs.Lines.{is_line_byte};
 ghost use Rattle.key_file.specs.KeyShape.{KeyShape};
+ghost use Rattle.gk_base.specs.Answers.{IsSo, Gives};
 ghost use Rattle.key_lang.specs.declared.fault.KeyRefusal.{KeyRefusal};
 ghost use Rattle.key_lang.specs.Fair.{IsFairState};
-ghost use Rattle.key_lang.specs.Seen.{IsJudged, HasSeen, SeesLines, HasSeenAll, SeesAll, next_line};
+ghost use Rattle.key_lang.specs.Seen.{NumberedSays, HasSeen, SeesLines, HasSeenAll, SeesAll, next_line};
 ghost use Rattle.key_lang.specs.Answers.{Is};
-ghost use Rattle.key_lang.specs.KeyText.{ended, KeysSay, IsTold, Tells};
+ghost use Rattle.key_lang.specs.KeyText.{ended, KeysSay};
 
 use crate::fault::{KeyFault, KeyRefusal, KeyStop, LineStop};
 use crate::line::after_line;
@@ -55,12 +56,12 @@ fn front(bytes: &[u8], limit: u64) -> &[u8]
 /// Judges the line with this number.
 fn judge(alloc: Global, state: Progress, number: u64, line: &[u8]) -> Result<Progress, KeyStop>
     requires { IsFairState state }
-    ensures { IsJudged state line.now number result }
+    ensures { IsSo (NumberedSays state line.now number) result }
 {
     match after_line(alloc, state, line) {
         Ok(next) => Ok(next),
         Err(LineStop::NoMemory) => Err(KeyStop::NoMemory),
-        Err(LineStop::Fault(fault)) => Err(KeyStop::Refused(KeyRefusal {
+        Err(LineStop::Fault(fault)) => Err(KeyStop::Fault(KeyRefusal {
             line: number,
             fault,
         })),
@@ -69,7 +70,7 @@ fn judge(alloc: Global, state: Progress, number: u64, line: &[u8]) -> Result<Pro
 
 /// Judges the lines that end in this front of a file.
 fn see_lines(alloc: Global, front: &[u8]) -> Result<Seen, KeyStop>
-    ensures { SeesLines front.now result }
+    ensures { IsSo (SeesLines front.now) result }
 {
     let mut state = Progress {
         keys: KeyFile::new(alloc),
@@ -89,10 +90,7 @@ fn see_lines(alloc: Global, front: &[u8]) -> Result<Seen, KeyStop>
         if end == front.len() {
             break;
         }
-        state = match judge(alloc, state, number, &front[from..end]) {
-            Ok(next) => next,
-            Err(stop) => return Err(stop),
-        };
+        state = judge(alloc, state, number, &front[from..end])?;
         number += 1;
         after_return = front[end] == b'\r';
         from = end + 1;
@@ -108,7 +106,7 @@ fn see_lines(alloc: Global, front: &[u8]) -> Result<Seen, KeyStop>
 /// Judges the last line of a file, where it does not end.
 fn see_rest(alloc: Global, bytes: &[u8], seen: Seen) -> Result<Seen, KeyStop>
     requires { HasSeen bytes.now seen }
-    ensures { SeesAll bytes.now result }
+    ensures { IsSo (SeesAll bytes.now) result }
 {
     if seen.from >= bytes.len() {
         return Ok(seen);
@@ -119,26 +117,24 @@ fn see_rest(alloc: Global, bytes: &[u8], seen: Seen) -> Result<Seen, KeyStop>
         from,
         after_return,
     } = seen;
-    match judge(alloc, state, number, &bytes[from..]) {
-        Ok(state) => Ok(Seen {
-            state,
-            number: number + 1,
-            from: bytes.len(),
-            after_return,
-        }),
-        Err(stop) => Err(stop),
-    }
+    let state = judge(alloc, state, number, &bytes[from..])?;
+    Ok(Seen {
+        state,
+        number: number + 1,
+        from: bytes.len(),
+        after_return,
+    })
 }
 
 /// The keys of a file whose lines are all good.
 fn keys_of(seen: Seen) -> Result<KeyFile, KeyStop>
-    ensures { IsTold (Is (ended seen.state.keys seen.state.current (seen.number - 1))) result }
+    ensures { IsSo (Is (ended seen.state.keys seen.state.current (seen.number - 1))) result }
 {
     let Seen { state, number, .. } = seen;
     let Progress { keys, current } = state;
     match current {
         None => Ok(keys),
-        Some(_) => Err(KeyStop::Refused(KeyRefusal {
+        Some(_) => Err(KeyStop::Fault(KeyRefusal {
             line: number.saturating_sub(1),
             fault: KeyFault::FileEndsInsideAKey,
         })),
@@ -156,23 +152,18 @@ fn next_line(seen: &Seen, byte: u8) -> u64
     }
 }
 
+/// Reads a key file as `read_keys` does.
 fn keys_answer(alloc: Global, bytes: &[u8], limit: u64) -> Result<KeyFile, KeyStop>
-    ensures { IsTold (KeysSay limit bytes.now) result }
+    ensures { IsSo (KeysSay limit bytes.now) result }
 {
-    let seen = match see_lines(alloc, front(bytes, limit)) {
-        Ok(seen) => seen,
-        Err(stop) => return Err(stop),
-    };
+    let seen = see_lines(alloc, front(bytes, limit))?;
     if limit < bytes.len() as u64 {
-        return Err(KeyStop::Refused(KeyRefusal {
+        return Err(KeyStop::Fault(KeyRefusal {
             line: next_line(&seen, bytes[limit as usize]),
             fault: KeyFault::FileTooLong,
         }));
     }
-    match see_rest(alloc, bytes, seen) {
-        Ok(seen) => keys_of(seen),
-        Err(stop) => Err(stop),
-    }
+    keys_of(see_rest(alloc, bytes, seen)?)
 }
 
 /// Reads a key file of at most `limit` bytes. Its lines are judged in order, each that ends within the limit, and a
@@ -182,9 +173,9 @@ fn keys_answer(alloc: Global, bytes: &[u8], limit: u64) -> Result<KeyFile, KeySt
 /// fails there; at the byte after the limit; or at its last line, where that leaves a key open.
 pub fn read_keys(alloc: Global, bytes: &[u8], limit: u64) -> Result<KeyFile, KeyStop>
     // What was answered is what the file says.
-    ensures says { IsTold (KeysSay limit bytes.now) result }
+    ensures says { IsSo (KeysSay limit bytes.now) result }
     // What the file says was answered, unless memory ran out.
-    ensures only { (answer : Result (List KeyShape) KeyRefusal) → KeysSay limit bytes.now answer → Tells result answer }
+    ensures only { (answer : Result (List KeyShape) KeyRefusal) → KeysSay limit bytes.now answer → Gives result answer }
 {
     keys_answer(alloc, bytes, limit)
 }

@@ -4,7 +4,7 @@ ghost use Rattle.std.specs.Prelude.{◌≡◌, ◌≤◌, ◌↔◌, ℕ, List, 
 ghost use Rattle.key_lang.specs.CanonicalKeys.{keys_text};
 ghost use Rattle.key_file.specs.KeyShape.{KeyShape};
 ghost use Rattle.key_lang.specs.declared.fault.KeyRefusal.{KeyRefusal};
-ghost use Rattle.nt_lex.specs.Answers.{HasOne};
+ghost use Rattle.gk_base.specs.Answers.{HasOne};
 ghost use Rattle.key_lang.specs.OpenKey.{KeyState};
 ghost use Rattle.key_lang.specs.Statements.{KeyLineSays};
 ghost use Rattle.key_lang.specs.KeyText.{KeysSay};
@@ -16,7 +16,7 @@ pub fn law_one_line_answer()
 
 /// A key file says one thing under a limit: its keys, or one refusal.
 pub fn law_one_keys_answer()
-    ensures { (limit : ℕ) (bytes : List ℕ) (a b : Result (List KeyShape) KeyRefusal) → KeysSay limit bytes a → KeysSay limit bytes b → a ≡ b }
+    ensures { (limit : ℕ) (bytes : List ℕ) → HasOne (KeysSay limit bytes) }
 {}
 
 /// What is written of the keys of a file is read as these keys under exactly the limits that the text fits, whatever the

@@ -1,7 +1,7 @@
-//! One line.
+//! Judges one line where it stands: a statement, or nothing.
 
 ghost use Rattle.std.specs.Prelude.{◌≡◌, ◌≤◌, length, IsUtf8};
-ghost use Rattle.key_lang.specs.Answers.{AnswersLine};
+ghost use Rattle.gk_base.specs.Answers.{IsSo};
 ghost use Rattle.key_lang.specs.Parts.{reopened_by};
 ghost use Rattle.key_lang.specs.Fair.{IsFairBeside, IsFairState};
 ghost use Rattle.key_lang.specs.Statements.{OutsideSays, InsideSays, begins_triple, StatementSays, KeyLineSays};
@@ -24,13 +24,10 @@ const MOST_KEYS: usize = 64;
 fn reopened(keys: KeyFile, changed: Result<OpenKey, LineStop>) -> Result<Progress, LineStop>
     ensures { result ≡ reopened_by keys changed }
 {
-    match changed {
-        Ok(key) => Ok(Progress {
-            keys,
-            current: Some(key),
-        }),
-        Err(stop) => Err(stop),
-    }
+    Ok(Progress {
+        keys,
+        current: Some(changed?),
+    })
 }
 
 /// A statement by its first word, from the place after it, outside a key.
@@ -43,7 +40,7 @@ fn outside_statement(
 ) -> Result<Progress, LineStop>
     requires inside { at ≤ length line.now }
     requires utf8 { IsUtf8 line.now }
-    ensures { AnswersLine (OutsideSays keys word line.now at) result }
+    ensures { IsSo (OutsideSays keys word line.now at) result }
 {
     if word != Keyword::Key {
         return Err(LineStop::Fault(KeyFault::StatementOutOfPlace));
@@ -66,7 +63,7 @@ fn inside_statement(
     requires inside { at ≤ length line.now }
     requires utf8 { IsUtf8 line.now }
     requires fair { IsFairBeside keys key }
-    ensures { AnswersLine (InsideSays keys key word line.now at) result }
+    ensures { IsSo (InsideSays keys key word line.now at) result }
 {
     match word {
         Keyword::Key => Err(LineStop::Fault(KeyFault::StatementOutOfPlace)),
@@ -90,7 +87,7 @@ fn statement(alloc: Global, state: Progress, line: &[u8], at: usize) -> Result<P
     requires inside { at ≤ length line.now }
     requires utf8 { IsUtf8 line.now }
     requires fair { IsFairState state }
-    ensures { AnswersLine (StatementSays state line.now at) result }
+    ensures { IsSo (StatementSays state line.now at) result }
 {
     let Progress { keys, current } = state;
     if begins_triple(byte_at(line, at)) {
@@ -112,7 +109,7 @@ fn statement(alloc: Global, state: Progress, line: &[u8], at: usize) -> Result<P
 /// The file after one more line, which has no line feed and no carriage return.
 pub(crate) fn after_line(alloc: Global, state: Progress, line: &[u8]) -> Result<Progress, LineStop>
     requires { IsFairState state }
-    ensures { AnswersLine (KeyLineSays state line.now) result }
+    ensures { IsSo (KeyLineSays state line.now) result }
 {
     if !simdutf8::is_utf8(line) {
         return Err(LineStop::Fault(KeyFault::NotUtf8));

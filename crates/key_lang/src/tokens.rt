@@ -1,14 +1,14 @@
 //! Words, names, variables and terms of a line.
 
 ghost use Rattle.std.specs.Prelude.{◌≡◌, ◌≤◌, length, slice_index, IsUtf8, IfOk};
-ghost use Rattle.std.specs.List.{list_all};
 ghost use Rattle.nt_lex.specs.Scans.{IsRunAt};
-ghost use Rattle.key_lang.specs.Answers.{AnswersLine};
+ghost use Rattle.gk_base.specs.Answers.{IsSo};
 ghost use Rattle.key_lang.specs.Parts.{ClosesHere, in_key_file};
-ghost use Rattle.key_lang.specs.Tokens.{Skipping, is_word_byte, is_over, is_name_byte, is_name, is_variable, NameSays, VariableSays, IriSays, ConstantSays};
+ghost use Rattle.key_lang.specs.Tokens.{Skipping, is_word_byte, is_over, is_variable, NameSays, VariableSays, IriSays, ConstantSays};
 
 use crate::fault::{KeyFault, LineStop, fault_of_term};
 use gk_base::{LexStop, Term, Text};
+use key_file::is_name;
 use nt_lex::{read_iri, read_literal, skip_space};
 use std::alloc::Global;
 
@@ -47,25 +47,6 @@ pub(crate) fn word_end(line: &[u8], at: usize) -> usize
     end
 }
 
-fn is_name_byte(byte: u8) -> bool
-    ensures { result ≡ is_name_byte byte }
-{
-    byte.is_ascii_lowercase() || byte.is_ascii_digit() || byte == b'_'
-}
-
-fn has_name_bytes(word: &[u8]) -> bool
-    ensures { result ≡ list_all is_name_byte word.now }
-{
-    word.iter().all(|byte| is_name_byte(*byte))
-}
-
-/// Whether a word is a name.
-pub(crate) fn is_name(word: &[u8]) -> bool
-    ensures { result ≡ is_name word.now }
-{
-    !word.is_empty() && word.len() <= 32 && has_name_bytes(word)
-}
-
 /// Whether a word is this sigil and a name.
 fn is_variable(sigil: u8, word: &[u8]) -> bool
     ensures { result ≡ is_variable sigil word.now }
@@ -79,7 +60,7 @@ fn is_variable(sigil: u8, word: &[u8]) -> bool
 /// Reads the name after tabs and spaces, and gives the place after it.
 pub(crate) fn read_name(alloc: Global, line: &[u8], at: usize) -> Result<(Text, usize), LineStop>
     requires { at ≤ length line.now }
-    ensures so { AnswersLine (Skipping line.now at (NameSays line.now)) result }
+    ensures so { IsSo (Skipping line.now at (NameSays line.now)) result }
     ensures within { IfOk result (λ r. r.1 ≤ length line.now) }
 {
     let begin = skip_space(line, at);
@@ -99,7 +80,7 @@ pub(crate) fn read_variable(
     at: usize,
 ) -> Result<(Text, usize), LineStop>
     requires { at ≤ length line.now }
-    ensures so { AnswersLine (Skipping line.now at (VariableSays sigil line.now)) result }
+    ensures so { IsSo (Skipping line.now at (VariableSays sigil line.now)) result }
     ensures within { IfOk result (λ r. r.1 ≤ length line.now) }
 {
     let begin = skip_space(line, at);
@@ -126,7 +107,7 @@ fn lexed(answer: Result<(Term, usize), LexStop>) -> Result<(Term, usize), LineSt
 pub(crate) fn read_type(alloc: Global, line: &[u8], at: usize) -> Result<(Term, usize), LineStop>
     requires inside { at ≤ length line.now }
     requires utf8 { IsUtf8 line.now }
-    ensures so { AnswersLine (Skipping line.now at (IriSays line.now)) result }
+    ensures so { IsSo (Skipping line.now at (IriSays line.now)) result }
     ensures within { IfOk result (λ r. r.1 ≤ length line.now) }
 {
     let begin = skip_space(line, at);
@@ -144,7 +125,7 @@ pub(crate) fn read_constant(
     at: usize,
 ) -> Result<(Term, usize), LineStop>
     requires { IsUtf8 line.now }
-    ensures so { AnswersLine (ConstantSays line.now at) result }
+    ensures so { IsSo (ConstantSays line.now at) result }
     ensures within { IfOk result (λ r. r.1 ≤ length line.now) }
 {
     match byte_at(line, at) {

@@ -2,14 +2,15 @@
 
 ghost use Rattle.std.specs.Prelude.{◌≡◌, ◌+◌, ◌<◌, ◌≤◌, ◌^◌, length, position, IfOk};
 ghost use Rattle.std.specs.List.{list_any};
-ghost use Rattle.key_lang.specs.Answers.{Is, AnswersLine};
+ghost use Rattle.gk_base.specs.Answers.{IsSo};
+ghost use Rattle.key_lang.specs.Answers.{Is};
 ghost use Rattle.key_lang.specs.OpenKey.{nodes, sigil_of, slot_name, is_named_so, declare};
 ghost use Rattle.key_lang.specs.Statements.{DeclaredSays};
 
 use crate::fault::{KeyFault, LineStop};
 use crate::open_key::OpenKey;
-use crate::tokens::{is_name, word_end};
-use key_file::KeySlot;
+use crate::tokens::word_end;
+use key_file::{KeySlot, is_name};
 
 /// How many variables and constants a key may have.
 pub(crate) const MOST_NODES: usize = 16;
@@ -21,6 +22,7 @@ pub(crate) fn nodes(key: &OpenKey) -> usize
     key.variables.len() + key.constants.len()
 }
 
+/// The sigil of a variable.
 fn sigil_of(slot: &KeySlot) -> u8
     ensures { result ≡ sigil_of slot.now }
 {
@@ -32,6 +34,7 @@ fn sigil_of(slot: &KeySlot) -> u8
     }
 }
 
+/// The name of a variable, without the sigil.
 fn slot_name(slot: &KeySlot) -> &[u8]
     ensures { result.now ≡ slot_name slot.now }
 {
@@ -42,18 +45,21 @@ fn slot_name(slot: &KeySlot) -> &[u8]
     }
 }
 
+/// Whether a slot is the variable with this sigil and this name.
 fn is_named_so(sigil: u8, name: &[u8], slot: &KeySlot) -> bool
     ensures { result ≡ is_named_so sigil name.now slot.now }
 {
     sigil_of(slot) == sigil && slot_name(slot) == name
 }
 
+/// Whether one of the variables has this sigil and this name.
 fn has_variable(variables: &[KeySlot], sigil: u8, name: &[u8]) -> bool
     ensures { result ≡ list_any (is_named_so sigil name.now) variables.now }
 {
     variables.iter().any(|slot| is_named_so(sigil, name, slot))
 }
 
+/// The place of the variable with this sigil and this name.
 fn place_of(variables: &[KeySlot], sigil: u8, name: &[u8]) -> Option<usize>
     ensures { result ≡ position (is_named_so sigil name.now) variables.now }
 {
@@ -64,7 +70,7 @@ fn place_of(variables: &[KeySlot], sigil: u8, name: &[u8]) -> Option<usize>
 
 /// The key with one more variable.
 pub(crate) fn declare(key: OpenKey, slot: KeySlot) -> Result<OpenKey, LineStop>
-    ensures { AnswersLine (Is (declare key slot)) result }
+    ensures { IsSo (Is (declare key slot)) result }
 {
     if has_variable(&key.variables, sigil_of(&slot), slot_name(&slot)) {
         return Err(LineStop::Fault(KeyFault::VariableDeclaredTwice));
@@ -84,7 +90,7 @@ pub(crate) fn read_declared(
     at: usize,
 ) -> Result<(usize, usize), LineStop>
     requires { at ≤ length line.now }
-    ensures so { AnswersLine (DeclaredSays key.now line.now at) result }
+    ensures so { IsSo (DeclaredSays key.now line.now at) result }
     ensures within { IfOk result (λ r. r.1 ≤ length line.now) }
 {
     let end = word_end(line, at);

@@ -2,9 +2,8 @@
 use Rattle.std.proofs.Common.{◌≡◌, ◌⊎◌, inl, inr, sym, subst, ℕ, ◌+◌, ◌<◌, List, length, drop, get_or, Result, Ok, Err, IsUtf8}
 use Rattle.std.proofs.lemmas.Str.{IsUtf8-drop, IsCharBoundary-after_ascii}
 use Rattle.gk_base.specs.declared.lex_fault.LexFault.{LexFault}
-use Rattle.gk_base.specs.declared.lex_fault.LexStop.{LexStop}
-use Rattle.gk_base.specs.declared.lex_fault.LexStop.TheVariants.{NoMemory, Fault}
-use Rattle.nt_lex.specs.Answers.{IsSo, Gives, HasOne}
+use Rattle.gk_base.specs.Answers.{LexStop, IsSo, Gives, HasOne}
+use Rattle.gk_base.specs.declared.stop.Stop.TheVariants.{NoMemory, Fault}
 
 pub only_from : {A : Type 0} (Says : Result A LexFault → Type 0) → HasOne Says → (r : Result A LexStop) → IsSo Says r
     → (answer : Result A LexFault) → Says answer → Gives r answer

@@ -8,15 +8,14 @@ use Rattle.gk_base.specs.declared.term.Term.{Term}
 use Rattle.gk_base.specs.declared.term.Term.TheVariants.{Iri, Blank, Plain, Lang}
 use Rattle.gk_base.specs.declared.lex_fault.LexFault.{LexFault}
 use Rattle.gk_base.specs.declared.lex_fault.LexFault.TheVariants.{ObjectExpected, BadIri, BadEscape, StringNotClosed, BadBlankNodeLabel, BadLanguageTag}
-use Rattle.gk_base.specs.declared.lex_fault.LexStop.{LexStop}
-use Rattle.gk_base.specs.declared.lex_fault.LexStop.TheVariants.{NoMemory, Fault}
-use Rattle.nt_lex.specs.Answers.{IsSo}
+use Rattle.gk_base.specs.Answers.{LexStop, IsSo}
+use Rattle.gk_base.specs.declared.stop.Stop.TheVariants.{NoMemory, Fault}
 use Rattle.nt_lex.specs.Chars.{is_blank, is_label_first}
 use Rattle.nt_lex.specs.Scans.{IsRunAt}
 use Rattle.nt_lex.specs.Written.{in_string, spelling, RunsTo}
 use Rattle.nt_lex.specs.Spelling.{HasDatatype, SpellsString, AfterCarets, AfterAt, plain, typed, tagged, iri, blank, literal}
 use Rattle.nt_lex.specs.Reading.{StringStops, string_fault, TagFails, SuffixFails, no_datatype, bad_datatype, bad_tag, begins_term, FailsFrom, no_term, bad_iri, bad_label, bad_string, bad_suffix, Reads, Says}
-use Rattle.nt_lex.specs.Parts.{IriAt, IsIriStop, TagAt, LabelIn, SuffixAt, SuffixSays}
+use Rattle.nt_lex.specs.Parts.{IriAt, IriTextSays, TagAt, LabelIn, SuffixAt, SuffixSays}
 use Rattle.nt_lex.proofs.ScanLemmas.{seam, run_passes, run_stops, next_at, span_once}
 use Rattle.nt_lex.proofs.PartLemmas.{known_inside, at_byte}
 
@@ -24,7 +23,7 @@ use Rattle.nt_lex.proofs.PartLemmas.{known_inside, at_byte}
 pub iri_reads : (line : List ℕ) (at : ℕ) (text : List ℕ) (end : ℕ) → IriAt line at text end → Reads line at (Iri text) end
 iri_reads line at text end i = record { piece = i.piece; rest = drop end line; spells = iri i.spells; stops = tt; here = i.here; ends = i.ends }
 
-pub iri_stop : (line : List ℕ) (at : ℕ) (stop : LexStop) → at < length line → get_or line at 0 ≡ 0x3C → IsIriStop line at stop → IsSo (Says line at) (Err stop)
+pub iri_stop : (line : List ℕ) (at : ℕ) (stop : LexStop) → at < length line → get_or line at 0 ≡ 0x3C → IsSo (IriTextSays {Z = Unit {0}} line at) (Err stop) → IsSo (Says line at) (Err stop)
 iri_stop line at NoMemory inside opens s = tt
 iri_stop line at (Fault f) inside opens s = bad_iri (at_byte line at 0x3C inside opens) s
 
@@ -182,7 +181,7 @@ module _ (line : List ℕ) (close next : ℕ) (gap : IsRunAt is_blank line close
           within = i.within;
         }
 
-    pub mistyped_so : (form : List ℕ) (stop : LexStop) → get_or line begin 0 ≡ 0x3C → IsIriStop line begin stop → IsSo (SuffixSays line form close) (Err stop)
+    pub mistyped_so : (form : List ℕ) (stop : LexStop) → get_or line begin 0 ≡ 0x3C → IsSo (IriTextSays {Z = Unit {0}} line begin) (Err stop) → IsSo (SuffixSays line form close) (Err stop)
     mistyped_so form NoMemory opens s = tt
     mistyped_so form (Fault f) opens s =
         bad_datatype (subst (AfterCarets (drop close line)) (at_byte line begin 0x3C (known_inside line begin 0x3C opens (omega arith)) opens) carets_follow) s

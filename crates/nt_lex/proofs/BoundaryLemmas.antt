@@ -8,8 +8,7 @@ use Rattle.std.specs.List.{list_all}
 use Rattle.std.specs.Str.{IsCharBoundary}
 use lib.Utf8.{encode, encodes}
 use Rattle.gk_base.specs.declared.term.Term.{Term}
-use Rattle.gk_base.specs.declared.lex_fault.LexStop.{LexStop}
-use Rattle.nt_lex.specs.Answers.{IsSo}
+use Rattle.gk_base.specs.Answers.{LexStop, IsSo}
 use Rattle.nt_lex.specs.Chars.{is_blank, is_letter, is_letter_or_digit, is_iri_excluded, is_string_excluded, is_escape_letter}
 use Rattle.nt_lex.specs.Written.{Written, may_stand, is_no_letter, spelling, spelled}
 use Rattle.nt_lex.specs.Spelling.{SpellsIri, SpellsString, SpellsLabel, is_subtag, dashed, IsTag, AfterCarets, AfterAt, SpellsSuffix, plain, typed, tagged, Spells, iri, blank, literal}

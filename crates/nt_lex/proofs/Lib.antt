@@ -1,18 +1,19 @@
-pub mod CharLemmas
-pub mod WrittenLemmas
-pub mod RunningLemmas
-pub mod AnswerLemmas
-pub mod ScanLemmas
-pub mod LaneLemmas
-pub mod GrammarLemmas
-pub mod TagLemmas
-pub mod LabelLemmas
-pub mod SuffixLemmas
-pub mod ReadingLemmas
-pub mod BoundaryLemmas
-pub mod PartLemmas
-pub mod AnswerParts
-pub mod OthersLemmas
-mod TextTotalLemmas
+mod AnswerLemmas
+mod AnswerParts
+mod BoundaryLemmas
+pub mod CallerLemmas
+mod CharLemmas
+mod GrammarLemmas
+mod LabelLemmas
+mod LaneLemmas
+mod OthersLemmas
+mod PartLemmas
+mod ReadingLemmas
+mod RunningLemmas
+mod ScanLemmas
+mod SuffixLemmas
 mod SuffixTotalLemmas
-pub mod TotalLemmas
+mod TagLemmas
+mod TextTotalLemmas
+mod TotalLemmas
+mod WrittenLemmas

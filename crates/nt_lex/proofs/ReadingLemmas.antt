@@ -4,7 +4,7 @@ use Rattle.gk_base.specs.declared.term.Term.{Term}
 use Rattle.gk_base.specs.declared.term.Term.TheVariants.{Iri, Blank}
 use Rattle.gk_base.specs.declared.lex_fault.LexFault.{LexFault}
 use Rattle.gk_base.specs.declared.lex_fault.LexFault.TheVariants.{ObjectExpected, BadBlankNodeLabel}
-use Rattle.nt_lex.specs.Answers.{HasOne}
+use Rattle.gk_base.specs.Answers.{HasOne}
 use Rattle.nt_lex.specs.Scans.{NextFails}
 use Rattle.nt_lex.specs.Written.{spelling}
 use Rattle.nt_lex.specs.Spelling.{SpellsIri, SpellsString, SpellsLabel, SpellsSuffix, Spells, iri, blank, literal}

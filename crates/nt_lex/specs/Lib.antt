@@ -1,7 +1,8 @@
+-- what callers of this crate read
 pub mod Chars
 pub mod Scans
 pub mod Written
 pub mod Spelling
 pub mod Reading
-pub mod Answers
+-- inner invariants and words of the proofs
 pub mod Parts

@@ -1,10 +1,10 @@
 -- What the private functions answer: parts of a term, and where they end.
 use Rattle.std.specs.Prelude.{◌≡◌, ◌≢◌, ℕ, ◌+◌, ◌≤◌, true, List, [], ◌∷◌, ◌++◌, length, drop, slice_range, encode_utf8, encode_utf8_all, Option, Some, None, Result, Ok, Err}
 use Rattle.std.specs.List.{list_all}
+use Rattle.std.specs.Cow.{cow_slice_items}
+use Rattle.std.specs.declared.borrow.CowSlice.{CowSlice}
 use Rattle.gk_base.specs.declared.term.Term.{Term}
 use Rattle.gk_base.specs.declared.lex_fault.LexFault.{LexFault}
-use Rattle.gk_base.specs.declared.lex_fault.LexStop.{LexStop}
-use Rattle.gk_base.specs.declared.lex_fault.LexStop.TheVariants.{NoMemory, Fault}
 use Rattle.nt_lex.specs.Chars.{is_label_first, is_label_inner}
 use Rattle.nt_lex.specs.Spelling.{SpellsIri, IsTag, SpellsSuffix}
 use Rattle.nt_lex.specs.Reading.{LabelStops, TagStops, SuffixStops, IriFails, TagFails, SuffixFails}
@@ -17,10 +17,10 @@ pub record IriAt (line : List ℕ) (at : ℕ) (text : List ℕ) (end : ℕ) : Ty
   pub ends : end ≡ at + length piece
   pub within : end ≤ length line
 
--- why no IRI is read whose `<` stands at the place
-abbrev pub IsIriStop : List ℕ → ℕ → LexStop → Type 0
-IsIriStop line at NoMemory = Unit {0}
-IsIriStop line at (Fault fault) = IriFails (drop (at + 1) line) fault
+-- what is to be answered to an IRI whose `<` stands at the place: the text that it spells and the place after it, or its fault
+abbrev pub IriTextSays : {Z : Type 0} → List ℕ → ℕ → Result (CowSlice ℕ Z × ℕ) LexFault → Type 0
+IriTextSays line at (Ok read) = IriAt line at (cow_slice_items read.0) read.1
+IriTextSays line at (Err fault) = IriFails (drop (at + 1) line) fault
 
 -- a tag stands from the one place to the other, and stops there
 pub record TagAt (line : List ℕ) (from end : ℕ) : Type 0 where

@@ -1,11 +1,11 @@
-//! Blank nodes.
+//! Reads blank nodes: `_:` and a label.
 
 ghost use Rattle.std.specs.Prelude.{◌≡◌, ◌≢◌, ◌<◌, ◌≤◌, length, drop, slice_index, IsUtf8, IfOk, IfSome, ℕ, Result, Err};
 ghost use Rattle.std.specs.Str.{IsCharBoundary};
 ghost use Rattle.gk_base.specs.declared.term.Term.{Term};
 ghost use Rattle.gk_base.specs.declared.lex_fault.LexFault.{LexFault};
-ghost use Rattle.gk_base.specs.declared.lex_fault.LexStop.TheVariants.{NoMemory};
-ghost use Rattle.nt_lex.specs.Answers.{IsSo, Gives};
+ghost use Rattle.gk_base.specs.declared.stop.Stop.TheVariants.{NoMemory};
+ghost use Rattle.gk_base.specs.Answers.{IsSo, Gives};
 ghost use Rattle.nt_lex.specs.Chars.{is_between, is_pn_chars_base, is_pn_chars_u, is_label_first, is_pn_chars, is_label_inner};
 ghost use Rattle.nt_lex.specs.Parts.{OthersIn, LabelSays};
 ghost use Rattle.nt_lex.specs.Reading.{Says};

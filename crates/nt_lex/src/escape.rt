@@ -1,4 +1,4 @@
-//! Escaped characters: ECHAR and UCHAR.
+//! Reads escaped characters: the grammar's ECHAR and UCHAR.
 
 ghost use Rattle.std.specs.Prelude.{◌≡◌, ◌+◌, ◌<◌, ◌≤◌, true, false, length, take, drop, slice_index, if◌then◌else◌, Some, None, IfSome, IfNone};
 ghost use Rattle.std.specs.List.{list_all};

@@ -1,13 +1,12 @@
-//! IRIs.
+//! Reads IRIs, which stand between angle brackets.
 
-ghost use Rattle.std.specs.Prelude.{◌≡◌, ◌<◌, ◌≤◌, length, slice_index, IsUtf8, ℕ, Result, IfOk, IfErr};
-ghost use Rattle.std.specs.Cow.{cow_slice_items};
+ghost use Rattle.std.specs.Prelude.{◌≡◌, ◌<◌, ◌≤◌, length, slice_index, IsUtf8, ℕ, Result, IfOk};
 ghost use Rattle.std.specs.Str.{IsCharBoundary};
 ghost use Rattle.gk_base.specs.declared.term.Term.{Term};
 ghost use Rattle.gk_base.specs.declared.lex_fault.LexFault.{LexFault};
-ghost use Rattle.nt_lex.specs.Answers.{IsSo, Gives};
+ghost use Rattle.gk_base.specs.Answers.{IsSo, Gives};
 ghost use Rattle.nt_lex.specs.Chars.{is_absolute, is_scheme};
-ghost use Rattle.nt_lex.specs.Parts.{IriAt, IsIriStop};
+ghost use Rattle.nt_lex.specs.Parts.{IriTextSays};
 ghost use Rattle.nt_lex.specs.Reading.{Says};
 
 use crate::body::iri_body;
@@ -56,8 +55,7 @@ pub(crate) fn iri_text<'a>(
     requires inside { at < length line.now }
     requires opens { slice_index line.now at ≡ 0x3C }
     requires utf8 { IsUtf8 line.now }
-    ensures found { IfOk result (λ r. IriAt line.now at (cow_slice_items r.0) r.1) }
-    ensures fails { IfErr result (IsIriStop line.now at) }
+    ensures { IsSo (IriTextSays line.now at) result }
 {
     let (text, end) = iri_body(alloc, line, at + 1)?;
     if end == line.len() {
@@ -86,13 +84,9 @@ pub(crate) fn iri_answer<'a>(
     requires utf8 { IsUtf8 line.now }
     ensures { IsSo (Says line.now at) result }
 {
-    match iri_text(alloc, line, at) {
-        Ok((text, end)) => {
-            let name = LexedTerm::new(TermKind::Iri, text, CowSlice::Borrowed(&[]));
-            Ok((name, end))
-        }
-        Err(stop) => Err(stop),
-    }
+    let (text, end) = iri_text(alloc, line, at)?;
+    let name = LexedTerm::new(TermKind::Iri, text, CowSlice::Borrowed(&[]));
+    Ok((name, end))
 }
 
 /// Reads the IRI whose `<` stands at `at`, and gives the place after its `>`. The line is UTF-8. Only a text that

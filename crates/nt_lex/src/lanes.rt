@@ -6,7 +6,9 @@ ghost use Rattle.nt_lex.specs.Chars.{is_iri_excluded, is_string_excluded};
 
 use std::simd::prelude::*;
 
-/// How many bytes stand in one vector.
+/// How many bytes stand in one vector. Names and strings are short, mostly between 16 and 64 bytes: with 32 lanes most of
+/// them would be left to the readers that go byte by byte. The lines of a file are longer, and `nt_reader` looks for their
+/// ends in 32 lanes.
 pub(crate) const LANES: usize = 16;
 
 /// One bit for each byte, the first the lowest: whether the byte is excluded in an IRI.

@@ -4,7 +4,7 @@ ghost use Rattle.std.specs.Prelude.{◌≡◌, ℕ, List, Result, IsUtf8};
 ghost use Rattle.std.specs.Str.{IsCharBoundary};
 ghost use Rattle.gk_base.specs.declared.term.Term.{Term};
 ghost use Rattle.gk_base.specs.declared.lex_fault.LexFault.{LexFault};
-ghost use Rattle.nt_lex.specs.Answers.{HasOne};
+ghost use Rattle.gk_base.specs.Answers.{HasOne};
 ghost use Rattle.nt_lex.specs.Reading.{Reads, Says};
 
 /// A spelling has one reading: the line and the place determine the term and where it ends.

@@ -2,7 +2,7 @@
 
 ghost use Rattle.std.specs.Prelude.{◌≡◌, ◌⊎◌, Err};
 ghost use Rattle.std.specs.Cow.{cow_slice_items};
-ghost use Rattle.gk_base.specs.declared.lex_fault.LexStop.TheVariants.{NoMemory};
+ghost use Rattle.gk_base.specs.declared.stop.Stop.TheVariants.{NoMemory};
 ghost use Rattle.term_list.specs.Parts.{GoesWith, made_of};
 
 use gk_base::{LexStop, Term};

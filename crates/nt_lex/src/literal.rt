@@ -1,4 +1,4 @@
-//! Literals.
+//! Reads literals: a string, and the datatype or the language tag behind it.
 
 ghost use Rattle.std.specs.Prelude.{◌≡◌, ◌<◌, ◌≤◌, ◌↔◌, length, slice_index, IsUtf8, IsTrue, IfOk, ℕ, Result};
 ghost use Rattle.std.specs.Cow.{cow_slice_items};
@@ -6,7 +6,7 @@ ghost use Rattle.std.specs.Str.{IsCharBoundary};
 ghost use Rattle.gk_base.specs.declared.term.Term.{Term};
 ghost use Rattle.gk_base.specs.declared.term.Term.TheVariants.{Plain};
 ghost use Rattle.gk_base.specs.declared.lex_fault.LexFault.{LexFault};
-ghost use Rattle.nt_lex.specs.Answers.{IsSo, Gives};
+ghost use Rattle.gk_base.specs.Answers.{IsSo, Gives};
 ghost use Rattle.nt_lex.specs.Spelling.{xsd_string, HasDatatype};
 ghost use Rattle.nt_lex.specs.Parts.{SuffixSays};
 ghost use Rattle.nt_lex.specs.Reading.{Says};
@@ -63,10 +63,8 @@ fn read_suffix<'a>(
         if byte_at(line, begin) != b'<' {
             return Err(LexStop::Fault(LexFault::BadIri));
         }
-        return match iri_text(alloc, line, begin) {
-            Ok((iri, end)) => Ok((with_datatype(form, iri), end)),
-            Err(stop) => Err(stop),
-        };
+        let (iri, end) = iri_text(alloc, line, begin)?;
+        return Ok((with_datatype(form, iri), end));
     }
     if byte_at(line, next) == b'@' {
         return match tag_end(line, next + 1) {

@@ -1,10 +1,10 @@
-//! Any of the terms.
+//! Reads a term of any kind, by its first byte.
 
 ghost use Rattle.std.specs.Prelude.{◌≡◌, ◌≤◌, length, IsUtf8, IfOk, ℕ, Result};
 ghost use Rattle.std.specs.Str.{IsCharBoundary};
 ghost use Rattle.gk_base.specs.declared.term.Term.{Term};
 ghost use Rattle.gk_base.specs.declared.lex_fault.LexFault.{LexFault};
-ghost use Rattle.nt_lex.specs.Answers.{IsSo, Gives};
+ghost use Rattle.gk_base.specs.Answers.{IsSo, Gives};
 ghost use Rattle.nt_lex.specs.Reading.{Says};
 
 use crate::blank::blank_answer;

@@ -38,7 +38,7 @@ fn is_string_plain(b: u8) -> bool
     !(b == b'"' || b == b'\\' || b == b'\n' || b == b'\r')
 }
 
-/// The same as `iri_run`, byte by byte.
+/// The same as `iri_run`, byte by byte: it reads the last bytes of a line, which fill no vector.
 fn iri_run_slowly(line: &[u8], at: usize) -> usize
     requires { at ≤ length line.now }
     ensures { IsRunAt is_iri_plain line.now at result }
@@ -67,7 +67,7 @@ pub(crate) fn iri_run(line: &[u8], at: usize) -> usize
     iri_run_slowly(line, end)
 }
 
-/// The same as `string_run`, byte by byte.
+/// The same as `string_run`, byte by byte: it reads the last bytes of a line, which fill no vector.
 fn string_run_slowly(line: &[u8], at: usize) -> usize
     requires { at ≤ length line.now }
     ensures { IsRunAt is_string_plain line.now at result }

@@ -1,4 +1,4 @@
-//! Tabs and spaces.
+//! Skips the tabs and spaces that may stand between terms.
 
 ghost use Rattle.std.specs.Prelude.{◌≤◌, length};
 ghost use Rattle.nt_lex.specs.Chars.{is_blank};

@@ -1,4 +1,4 @@
-//! Language tags.
+//! Where language tags end, and tags in lower case.
 
 ghost use Rattle.std.specs.Prelude.{◌≡◌, ◌≤◌, length, IfOk, map};
 ghost use Rattle.std.specs.Char.{to_ascii_lowercase};

@@ -11,7 +11,7 @@ use Rattle.gk_base.specs.declared.read_fault.ReadFault.TheVariants.{TooLong}
 use Rattle.gk_base.specs.declared.read_fault.ReadRefusal.{ReadRefusal}
 use Rattle.nt_reader.specs.Line.{LineSays}
 use Rattle.nt_reader.specs.Lines.{Cut, cut_of, last_of}
-use Rattle.nt_reader.specs.File.{itself, IsGood, AreGood, RefusesLine, judged, line_of_next, Refuses}
+use Rattle.nt_reader.specs.File.{triples_of, IsGood, AreGood, RefusesLine, judged, line_of_next, Refuses}
 use Rattle.nt_reader.proofs.CutLemmas.{cut_append, ended_grows}
 
 zip_push : (ls : List (List ℕ)) (bs : List (Option Triple)) (l : List ℕ) (a : Option Triple) → AllZip IsGood ls bs → IsGood l a → AllZip IsGood (ls ++ l ∷ []) (bs ++ a ∷ [])
@@ -22,11 +22,11 @@ zip_push (k ∷ ls) (b ∷ bs) l a z g = (z.0, zip_push ls bs l a z.1 g)
 
 -- one more line is good
 pub good_push : (ls : List (List ℕ)) (ts : List Triple) (l : List ℕ) (a : Option Triple) → AreGood ls ts → LineSays l (Ok a)
-    → AreGood (ls ++ l ∷ []) (ts ++ filter_map itself (a ∷ []))
+    → AreGood (ls ++ l ∷ []) (ts ++ triples_of (a ∷ []))
 good_push ls ts l a g s = record {
   answers = g.answers ++ a ∷ [];
   each = zip_push ls g.answers l a g.each s;
-  have = ap (λ (t : List Triple). t ++ filter_map itself (a ∷ [])) g.have ∙ sym (filter_map-append itself g.answers (a ∷ []));
+  have = ap (λ (t : List Triple). t ++ triples_of (a ∷ [])) g.have ∙ sym (filter_map-append (λ answer. answer) g.answers (a ∷ []));
 }
 
 -- the lines that ended in a front within the limit are judged first, whatever follows

@@ -1,9 +1,11 @@
-pub mod LineLemmas
-pub mod LineAnswers
-pub mod CutLemmas
-pub mod FileLemmas
-pub mod StateLemmas
-pub mod OneFile
-pub mod LinedLemmas
-pub mod TotalLemmas
-pub mod OpenLemmas
+pub mod CallerLemmas
+mod CutLemmas
+mod FileLemmas
+mod LineAnswers
+mod LineLemmas
+mod LinedLemmas
+mod OneFile
+mod OpenLemmas
+mod StateLemmas
+mod TextLemmas
+mod TotalLemmas

@@ -3,9 +3,8 @@ use Rattle.std.proofs.Common.{◌≡◌, ℕ, Bool, true, List, get_or, Result, 
 use Rattle.gk_base.specs.declared.term.Term.{Term}
 use Rattle.gk_base.specs.declared.term.Triple.{Triple}
 use Rattle.gk_base.specs.declared.lex_fault.LexFault.{LexFault}
-use Rattle.gk_base.specs.declared.lex_fault.LexStop.{LexStop}
-use Rattle.gk_base.specs.declared.lex_fault.LexStop.TheVariants.{NoMemory, Fault}
-use Rattle.nt_lex.specs.Answers.{IsSo}
+use Rattle.gk_base.specs.Answers.{LexStop, IsSo}
+use Rattle.gk_base.specs.declared.stop.Stop.TheVariants.{NoMemory, Fault}
 use Rattle.nt_lex.specs.Reading.{Says}
 use Rattle.nt_reader.specs.Line.{Skips, IsOver, SubjectSays, PredicateSays, TermSays, term, FromObject, no_object, FromPredicate, no_predicate, predicate_reads, FromSubject, no_subject, subject_reads, LineSays, faulty}
 

@@ -6,10 +6,10 @@ use Rattle.gk_base.specs.declared.term.Triple.{Triple}
 use Rattle.gk_base.specs.declared.lex_fault.LexFault.{LexFault}
 use Rattle.gk_base.specs.declared.lex_fault.LexFault.TheVariants.{SubjectExpected, PredicateExpected}
 use Rattle.nt_lex.specs.Chars.{is_blank}
-use Rattle.nt_lex.specs.Answers.{HasOne}
+use Rattle.gk_base.specs.Answers.{HasOne}
 use Rattle.nt_lex.specs.Scans.{IsRunAt}
 use Rattle.nt_lex.specs.Reading.{Reads, Fails}
-use Rattle.nt_lex.proofs.ReadingLemmas.{says_once}
+use Rattle.nt_lex.proofs.CallerLemmas.{says_once}
 use Rattle.nt_reader.specs.Line.{Skips, IsOver, begins_subject, begins_predicate, TermSays, term, other, EndSays, no_dot, text, over, FromObject, no_object, no_end, whole, FromPredicate, no_predicate, predicate_reads, FromSubject, no_subject, subject_reads, LineSays, no_text, nothing, triple, faulty}
 
 pub true_false : true ≡ false → ⊥

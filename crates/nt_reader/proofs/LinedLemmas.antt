@@ -4,7 +4,7 @@ use Rattle.std.proofs.lemmas.Bool.{and_parts, and_from, cases_Bool, cases_eq, ne
 use Rattle.std.proofs.lemmas.List.Folds.{list_all-append}
 use Rattle.std.specs.List.{list_all}
 use Rattle.nt_lex.specs.Scans.{NextFails}
-use Rattle.nt_lex.proofs.ScanLemmas.{heads_differ, next_fails, span_once}
+use Rattle.nt_lex.proofs.CallerLemmas.{heads_differ, next_fails, span_once}
 use Rattle.nt_reader.specs.Lines.{is_line_byte, Cut, next, uncut, cut_of, Lined, rest, feed, return_feed, return}
 use Rattle.nt_reader.proofs.CutLemmas.{next_plain, next_end, swallowed}
 use Rattle.nt_reader.proofs.LineLemmas.{true_false}

@@ -11,7 +11,7 @@ use Rattle.gk_base.specs.declared.read_fault.ReadFault.TheVariants.{Lex}
 use Rattle.gk_base.specs.declared.read_fault.ReadRefusal.{ReadRefusal}
 use Rattle.nt_reader.specs.Line.{LineSays}
 use Rattle.nt_reader.specs.Lines.{cut_of, lines}
-use Rattle.nt_reader.specs.File.{itself, IsGood, AreGood, RefusesLine, StopsIn, judged, IsTooLong, FileSays}
+use Rattle.nt_reader.specs.File.{triples_of, IsGood, AreGood, RefusesLine, StopsIn, judged, IsTooLong, FileSays}
 use Rattle.nt_reader.proofs.LineLemmas.{line_once}
 
 said_same : (x y : Option Triple) → Path (Result (Option Triple) LexFault) (Ok x) (Ok y) → x ≡ y
@@ -25,7 +25,7 @@ err_same f g e = cc
 
 -- the triples that answers have
 abbrev told : List (Option Triple) → List Triple
-told answers = filter_map itself answers
+told answers = triples_of answers
 
 -- good lines have one list of answers
 answers_once : (content : List (List ℕ)) (a b : List (Option Triple)) → AllZip IsGood content a → AllZip IsGood content b → a ≡ b
@@ -95,7 +95,7 @@ good_conflict most content good bad more all before fault e g few h r =
     let s = split good bad more g.answers (subst (λ (l : List (List ℕ)). AllZip IsGood l g.answers) e g.each) in
     let front : before ≡ told s.front = h.have ∙ ap told (answers_once good h.answers s.front h.each s.each) in
     let whole : all ≡ before ++ told (s.answer ∷ s.back) =
-    g.have ∙ ap told s.whole ∙ filter_map-append itself s.front (s.answer ∷ s.back) ∙ ap (λ (l : List Triple). l ++ told (s.answer ∷ s.back)) (sym front) in
+    g.have ∙ ap told s.whole ∙ filter_map-append (λ answer. answer) s.front (s.answer ∷ s.back) ∙ ap (λ (l : List Triple). l ++ told (s.answer ∷ s.back)) (sym front) in
     refused_good most before bad fault s.answer s.back r s.says (omega (arith, ap length whole, few))
 
 -- of two lines of a list one comes first

@@ -6,13 +6,14 @@ use Rattle.gk_base.specs.declared.limits.Limits.{Limits}
 use Rattle.gk_base.specs.declared.term.Triple.{Triple}
 use Rattle.gk_base.specs.declared.read_fault.ReadFault.TheVariants.{TooLong}
 use Rattle.gk_base.specs.declared.read_fault.ReadRefusal.{ReadRefusal}
-use Rattle.gk_base.specs.declared.read_fault.ReadStop.{ReadStop}
-use Rattle.gk_base.specs.declared.read_fault.ReadStop.TheVariants.{NoMemory, Refused}
+use Rattle.gk_base.specs.Answers.{ReadStop, IsSo}
+use Rattle.gk_base.specs.declared.stop.Stop.TheVariants.{NoMemory, Fault}
 use Rattle.nt_reader.specs.File.{AreGood, FileSays, Refuses, IsOpen, line_of_next}
 use Rattle.nt_reader.specs.Lines.{Cut, cut_of, is_line_byte}
 use Rattle.nt_reader.specs.declared.state.State.{State}
 use Rattle.nt_reader.specs.Reading.{Front, Reading, front_of, so_far_of}
-use Rattle.nt_reader.specs.Kept.{IsFrontOf, IsStopped, HasCome, HasRead, Takes, FinishSays}
+use Rattle.nt_reader.specs.Kept.{IsFrontOf, IsStopped, HasCome, HasRead, FinishSays}
+use Rattle.nt_reader.specs.Keeping.{Takes}
 use Rattle.nt_reader.proofs.CutLemmas.{cut_append, some_plain}
 use Rattle.nt_reader.proofs.FileLemmas.{long_for_good}
 use Rattle.nt_reader.proofs.OneFile.{file_once}
@@ -94,12 +95,12 @@ fed_open limits bytes (Err stop) h k = absurd (cc)
 
 -- a refusal was answered exactly where these bytes are refused so
 pub fed_refused : {A : Type 0} (limits : Limits) (bytes : List ℕ) (answer : Result A ReadStop) → Fed limits bytes answer → answer ≢ Err NoMemory →
-    (refusal : ReadRefusal) → (answer ≡ Err (Refused refusal)) ↔ Refuses limits bytes refusal
+    (refusal : ReadRefusal) → (answer ≡ Err (Fault refusal)) ↔ Refuses limits bytes refusal
 fed_refused limits bytes (Ok x) h n refusal = ((λ e. absurd (cc)), (λ r. absurd (h refusal r)))
 fed_refused limits bytes (Err NoMemory) h n refusal = absurd (n refl)
-fed_refused {A} limits bytes (Err (Refused s)) h n refusal = (
+fed_refused {A} limits bytes (Err (Fault s)) h n refusal = (
   (λ e. let same : s ≡ refusal = cc in subst (Refuses limits bytes) same h),
-  (λ r. ap (λ w. let x : Result A ReadStop = Err (Refused w) in x) (refused_one_way limits bytes s refusal h r)),
+  (λ r. ap (λ w. let x : Result A ReadStop = Err (Fault w) in x) (refused_one_way limits bytes s refusal h r)),
 )
 
 -- ---- what clauses see of a reader, by its fields
@@ -118,12 +119,12 @@ module _ (reading : Reading) (limits : Limits) (running : Bool) (state : State) 
   -- a running reader has what its state has
   pub standing : running ≡ true → (taken : List Triple) (seen : List ℕ) → HasRead reading taken seen → IsFrontOf limits (front_of state) taken seen
   standing e taken seen h =
-      subst (λ (l : Limits). IsFrontOf l (front_of state) taken seen) limits_are (subst (λ (r : Result Front ReadStop). HasCome reading.limits r taken seen) (running_is e) h)
+      subst (λ (l : Limits). IsFrontOf l (front_of state) taken seen) limits_are (subst (λ (r : Result Front ReadStop). IsSo (HasCome reading.limits taken seen) r) (running_is e) h)
 
   -- another one has stopped, and no more bytes change that
   pub stopped_for_good : running ≡ false → (taken : List Triple) (seen piece : List ℕ) → HasRead reading taken seen → IsStopped reading.limits (seen ++ piece) stop
   stopped_for_good e taken seen piece h =
-      stopped_more reading.limits seen (seen ++ piece) piece stop refl (subst (λ (r : Result Front ReadStop). HasCome reading.limits r taken seen) (stopped_is e) h)
+      stopped_more reading.limits seen (seen ++ piece) piece stop refl (subst (λ (r : Result Front ReadStop). IsSo (HasCome reading.limits taken seen) r) (stopped_is e) h)
 
   -- what was answered for a piece is what the bytes have come to
   pub piece_fed : {A : Type 0} (new : State) (piece : List ℕ) (result : Result A ReadStop) → running ≡ true → Takes limits state new piece result →
@@ -132,10 +133,10 @@ module _ (reading : Reading) (limits : Limits) (running : Bool) (state : State) 
       subst (λ (l : Limits). Fed l (seen ++ piece) result) (sym limits_are) (takes_fed limits state new taken seen piece result takes (standing e taken seen h))
 
   -- what the file says under the state's limits is the answer at the end
-  pub finish_under : (taken : List Triple) (bytes : List ℕ) (result : Result (List Triple) ReadStop) → FinishSays limits taken bytes result → FinishSays reading.limits taken bytes result
-  finish_under taken bytes result says = subst (λ (l : Limits). FinishSays l taken bytes result) (sym limits_are) says
+  pub finish_under : (taken : List Triple) (bytes : List ℕ) (result : Result (List Triple) ReadStop) → IsSo (FinishSays limits taken bytes) result → IsSo (FinishSays reading.limits taken bytes) result
+  finish_under taken bytes result says = subst (λ (l : Limits). IsSo (FinishSays l taken bytes) result) (sym limits_are) says
 
   -- it answers so at the end, too
-  pub stopped_at_end : running ≡ false → (taken : List Triple) (bytes : List ℕ) → HasRead reading taken bytes → FinishSays reading.limits taken bytes (Err stop)
+  pub stopped_at_end : running ≡ false → (taken : List Triple) (bytes : List ℕ) → HasRead reading taken bytes → IsSo (FinishSays reading.limits taken bytes) (Err stop)
   stopped_at_end e taken bytes h =
-      finish_stopped reading.limits taken bytes stop (subst (λ (r : Result Front ReadStop). HasCome reading.limits r taken bytes) (stopped_is e) h)
+      finish_stopped reading.limits taken bytes stop (subst (λ (r : Result Front ReadStop). IsSo (HasCome reading.limits taken bytes) r) (stopped_is e) h)

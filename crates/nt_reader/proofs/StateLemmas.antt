@@ -10,13 +10,13 @@ use Rattle.gk_base.specs.declared.read_fault.ReadRefusal.{ReadRefusal}
 use Rattle.nt_reader.specs.Lines.{is_line_byte}
 use Rattle.nt_reader.specs.declared.state.State.{State}
 use Rattle.nt_reader.specs.Lines.{Cut, cut_of, last_of, lines}
-use Rattle.nt_reader.specs.File.{itself, AreGood, RefusesLine, line_of_next, FileSays, Refuses}
+use Rattle.nt_reader.specs.File.{triples_of, AreGood, RefusesLine, line_of_next, FileSays, Refuses}
 use Rattle.gk_base.specs.declared.read_fault.ReadFault.{ReadFault}
 use Rattle.gk_base.specs.declared.read_fault.ReadFault.TheVariants.{TooLong}
 use Rattle.std.proofs.lemmas.Bool.{and_from, cond-true, cond-false, eq-eqb, le-leb}
 use Rattle.nt_reader.specs.Judged.{AddsLine, IsRefusedWith, Judges}
-use Rattle.gk_base.specs.declared.read_fault.ReadStop.{ReadStop}
-use Rattle.gk_base.specs.declared.read_fault.ReadStop.TheVariants.{NoMemory, Refused}
+use Rattle.gk_base.specs.Answers.{ReadStop, IsSo}
+use Rattle.gk_base.specs.declared.stop.Stop.TheVariants.{NoMemory, Fault}
 use Rattle.nt_reader.specs.Reading.{Front, front_of}
 use Rattle.nt_reader.specs.Kept.{IsFrontOf, IsStopped, FinishSays}
 use Rattle.nt_reader.specs.Line.{LineSays}
@@ -93,13 +93,13 @@ module _ (limits : Limits) (old : State) (taken : List Triple) (seen : List ℕ)
     stands_line new adds count kept line returned left =
         let grown = good_push (cut_of seen).ended (taken ++ old.triples) (old.kept.items ++ seg) adds.answer s.good adds.says in
         let content : old.kept.items ++ seg ≡ (cut_of seen).rest ++ seg = ap (λ (l : List ℕ). l ++ seg) s.rest in
-        let more : taken ++ new.triples ≡ (taken ++ old.triples) ++ filter_map itself (adds.answer ∷ []) =
-        ap (λ (t : List Triple). taken ++ t) adds.grown ∙ sym (append_assoc taken old.triples (filter_map itself (adds.answer ∷ []))) in
+        let more : taken ++ new.triples ≡ (taken ++ old.triples) ++ triples_of (adds.answer ∷ []) =
+        ap (λ (t : List Triple). taken ++ t) adds.grown ∙ sym (append_assoc taken old.triples (triples_of (adds.answer ∷ []))) in
         after limits new taken (seen ++ (seg ++ b ∷ [])) _ ends (count ∙ sym long) (omega (arith, long, room)) kept
         (omega (arith, line, s.line, length-append (cut_of seen).ended (((cut_of seen).rest ++ seg) ∷ [])))
         returned
         (subst (λ (t : List Triple). AreGood ((cut_of seen).ended ++ ((cut_of seen).rest ++ seg) ∷ []) t) (sym more)
-        (subst (λ (l : List ℕ). AreGood ((cut_of seen).ended ++ l ∷ []) ((taken ++ old.triples) ++ filter_map itself (adds.answer ∷ []))) content grown))
+        (subst (λ (l : List ℕ). AreGood ((cut_of seen).ended ++ l ∷ []) ((taken ++ old.triples) ++ triples_of (adds.answer ∷ []))) content grown))
         (omega (arith, s.room, left)) (omega (arith, adds.few s.few, left))
 
     pub stops_line : (refusal : ReadRefusal) → IsRefusedWith old.room old.triples (old.kept.items ++ seg) old.line refusal
@@ -135,7 +135,7 @@ moved limits front taken a b e s = subst (IsFrontOf limits front taken) e s
 
 pub stopped_more : (limits : Limits) (bytes all more : List ℕ) (stop : ReadStop) → bytes ++ more ≡ all → IsStopped limits bytes stop → IsStopped limits all stop
 stopped_more limits bytes all more NoMemory e s = tt
-stopped_more limits bytes all more (Refused r) e s = subst (λ (l : List ℕ). IsStopped limits l (Refused r)) e (refuses_more limits bytes more r s)
+stopped_more limits bytes all more (Fault r) e s = subst (λ (l : List ℕ). IsStopped limits l (Fault r)) e (refuses_more limits bytes more r s)
 
 pub too_long : (limits : Limits) (new : State) (taken : List Triple) (seen piece front : List ℕ) (cut line : ℕ) → IsFrontOf limits (front_of new) taken (seen ++ front) → front ≡ take cut piece → cut < length piece
     → new.bytes ≡ limits.bytes → line ≡ line_of_next (seen ++ front) (get_or piece cut 0) → Refuses limits (seen ++ piece) (record { line = line; fault = TooLong })
@@ -158,9 +158,9 @@ line_elsewhere limits new taken front b s e =
     s.line ∙ sym (cond-false _ _ _ (ap (λ r. r && eqb b 0x0A) (sym s.returned) ∙ e))
 
 -- at the end, what was refused is the answer
-pub finish_stopped : (limits : Limits) (taken : List Triple) (bytes : List ℕ) (stop : ReadStop) → IsStopped limits bytes stop → FinishSays limits taken bytes (Err stop)
+pub finish_stopped : (limits : Limits) (taken : List Triple) (bytes : List ℕ) (stop : ReadStop) → IsStopped limits bytes stop → IsSo (FinishSays limits taken bytes) (Err stop)
 finish_stopped limits taken bytes NoMemory s = tt
-finish_stopped limits taken bytes (Refused r) s = subst (λ (l : List ℕ). FileSays limits l (Err r)) (append-nil bytes) (s.always [])
+finish_stopped limits taken bytes (Fault r) s = subst (λ (l : List ℕ). FileSays limits l (Err r)) (append-nil bytes) (s.always [])
 
 last_some : (rest : List ℕ) → 0 < length rest → last_of rest ≡ rest ∷ []
 last_some [] h = absurd (omega arith)
@@ -185,8 +185,8 @@ module _ (limits : Limits) (state : State) (taken : List Triple) (bytes : List �
   -- at the end, with a last line that is good
   pub finish_good : (new : List Triple) → AddsLine state.room state.triples new (state.kept.items ++ []) → FileSays limits bytes (Ok (taken ++ new))
   finish_good new adds =
-      let more : taken ++ new ≡ (taken ++ state.triples) ++ filter_map itself (adds.answer ∷ []) =
-      ap (λ (t : List Triple). taken ++ t) adds.grown ∙ sym (append_assoc taken state.triples (filter_map itself (adds.answer ∷ []))) in (
+      let more : taken ++ new ≡ (taken ++ state.triples) ++ triples_of (adds.answer ∷ []) =
+      ap (λ (t : List Triple). taken ++ t) adds.grown ∙ sym (append_assoc taken state.triples (triples_of (adds.answer ∷ []))) in (
         s.within,
         subst (λ (l : List (List ℕ)). AreGood l (taken ++ new)) (sym all_lines)
             (subst (λ (t : List Triple). AreGood ((cut_of bytes).ended ++ state.kept.items ∷ []) t) (sym more)
@@ -196,10 +196,10 @@ module _ (limits : Limits) (state : State) (taken : List Triple) (bytes : List �
       )
 
   -- at the end, with a last line that is refused
-  pub finish_bad : (B : Type 0) (new : List Triple) (stop : ReadStop) → Judges {A = B} state.room state.triples new (state.kept.items ++ []) state.line (Err stop)
-      → FinishSays limits taken bytes (Err stop)
+  pub finish_bad : (B : Type 0) (new : List Triple) (stop : ReadStop) → IsSo (Judges {A = B} state.room state.triples new (state.kept.items ++ []) state.line) (Err stop)
+      → IsSo (FinishSays limits taken bytes) (Err stop)
   finish_bad B new NoMemory j = tt
-  finish_bad B new (Refused r) j = inl (record {
+  finish_bad B new (Fault r) j = inl (record {
     good = (cut_of bytes).ended;
     bad = state.kept.items;
     more = [];

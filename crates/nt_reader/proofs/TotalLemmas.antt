@@ -13,9 +13,7 @@ use Rattle.gk_base.specs.declared.read_fault.ReadFault.TheVariants.{Lex, TooMany
 use Rattle.gk_base.specs.declared.read_fault.ReadRefusal.{ReadRefusal}
 use Rattle.nt_lex.specs.Chars.{is_blank}
 use Rattle.nt_lex.specs.Reading.{Reads, Says}
-use Rattle.nt_lex.proofs.BoundaryLemmas.{blank_low, ends_at_a_character}
-use Rattle.nt_lex.proofs.LaneLemmas.{run_from}
-use Rattle.nt_lex.proofs.TotalLemmas.{says_total}
+use Rattle.nt_lex.proofs.CallerLemmas.{blank_low, ends_at_a_character, run_from, says_total}
 use Rattle.nt_reader.specs.Line.{Skips, IsOver, begins_subject, begins_predicate, TermSays, term, other, SubjectSays, PredicateSays, EndSays, no_dot, text, over, FromObject, no_object, no_end, whole, FromPredicate, no_predicate, predicate_reads, FromSubject, no_subject, subject_reads, LineSays, no_text, nothing, triple, faulty}
 use Rattle.nt_reader.specs.Lines.{cut_of, lines}
 use Rattle.nt_reader.specs.File.{AreGood, StopsIn, line_of_next, FileSays}

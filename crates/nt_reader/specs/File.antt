@@ -11,9 +11,9 @@ use Rattle.gk_base.specs.declared.read_fault.ReadRefusal.{ReadRefusal}
 use Rattle.nt_reader.specs.Line.{LineSays}
 use Rattle.nt_reader.specs.Lines.{cut_of, lines}
 
--- the triple of a line, where it has one
-abbrev pub itself : Option Triple → Option Triple
-itself answer = answer
+-- the triples of lines that have one or none
+abbrev pub triples_of : List (Option Triple) → List Triple
+triples_of answers = filter_map (λ answer. answer) answers
 
 -- the line is good, and this is its triple or that it has none
 abbrev pub IsGood : List ℕ → Option Triple → Type 0
@@ -23,7 +23,7 @@ IsGood line answer = LineSays line (Ok answer)
 pub record AreGood (content : List (List ℕ)) (triples : List Triple) : Type 0 where
   pub answers : List (Option Triple)
   pub each : AllZip IsGood content answers
-  pub have : triples ≡ filter_map itself answers
+  pub have : triples ≡ triples_of answers
 
 -- after lines with these triples, this line is refused: it is faulty, or it has a triple when there are as many as may be
 pub record RefusesLine (most : ℕ) (triples : List Triple) (line : List ℕ) (fault : ReadFault) : Type 0 where

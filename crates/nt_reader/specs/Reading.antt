@@ -1,9 +1,9 @@
 -- What clauses see of a reader of a file: its limits, and what is kept of the pieces that it was fed, or why it has stopped.
 -- This project's own words.
-use Rattle.std.specs.Prelude.{ℕ, ◌+◌, ◌<◌, ◌≤◌, ◌^◌, Bool, IsTrue, List, cond, Result, Ok, Err}
+use Rattle.std.specs.Prelude.{ℕ, Bool, List, cond, Result, Ok, Err}
 use Rattle.gk_base.specs.declared.term.Triple.{Triple}
 use Rattle.gk_base.specs.declared.limits.Limits.{Limits}
-use Rattle.gk_base.specs.declared.read_fault.ReadStop.{ReadStop}
+use Rattle.gk_base.specs.Answers.{ReadStop}
 use Rattle.nt_reader.specs.declared.state.State.{State}
 
 -- what is kept of the bytes that were fed, none of which is refused
@@ -34,9 +34,3 @@ front_of state = record { bytes = state.bytes; line = state.line; rest = state.k
 -- a running reader has a state, and another one has stopped
 abbrev pub so_far_of : Bool → State → ReadStop → Result Front ReadStop
 so_far_of running state stop = cond running (Ok (front_of state)) (Err stop)
-
--- what a running reader has kept is within its limits, and its numbers can count one byte more
-pub record KeepsWithin (limits : Limits) (running : Bool) (state : State) : Type 0 where
-  pub small : limits.bytes + 1 < 2 ^ 64
-  pub room : IsTrue running → state.bytes ≤ limits.bytes
-  pub few : IsTrue running → state.line ≤ state.bytes + 1

@@ -5,7 +5,7 @@ ghost use Rattle.gk_base.specs.declared.lex_fault.LexFault.{LexFault};
 ghost use Rattle.gk_base.specs.declared.limits.Limits.{Limits};
 ghost use Rattle.gk_base.specs.declared.term.Triple.{Triple};
 ghost use Rattle.gk_base.specs.declared.read_fault.ReadRefusal.{ReadRefusal};
-ghost use Rattle.nt_lex.specs.Answers.{HasOne};
+ghost use Rattle.gk_base.specs.Answers.{HasOne};
 ghost use Rattle.nt_reader.specs.Line.{LineSays};
 ghost use Rattle.nt_reader.specs.Lines.{cut_of, Lined};
 ghost use Rattle.nt_reader.specs.File.{FileSays};
@@ -27,7 +27,7 @@ pub fn law_one_line_answer()
 
 /// A file says one thing under limits: the triples of its lines, or one refusal.
 pub fn law_one_file_answer()
-    ensures { (limits : Limits) (bytes : List ℕ) (a b : Result (List Triple) ReadRefusal) → FileSays limits bytes a → FileSays limits bytes b → a ≡ b }
+    ensures { (limits : Limits) (bytes : List ℕ) → HasOne (FileSays limits bytes) }
 {}
 
 /// The lines of a text and its rest are those of the grammar.

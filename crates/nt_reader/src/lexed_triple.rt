@@ -1,4 +1,4 @@
-//! The terms of a line.
+//! The triple of a line, whose terms are lent.
 
 ghost use Rattle.std.specs.Prelude.{◌≡◌, IfOk};
 

@@ -22,6 +22,3 @@ pub use laws::{
 };
 pub use line::read_line;
 pub use reader::Reader;
-
-#[cfg(test)]
-mod tests;

@@ -1,9 +1,9 @@
-//! One line.
+//! Reads one line: its triple, or what is wrong with it.
 
 ghost use Rattle.std.specs.Prelude.{◌≡◌, ◌≤◌, ◌↔◌, length, slice_index, IsUtf8, IsTrue, IfOk, ℕ, Option, Result};
 ghost use Rattle.gk_base.specs.declared.term.Triple.{Triple};
 ghost use Rattle.gk_base.specs.declared.lex_fault.LexFault.{LexFault};
-ghost use Rattle.nt_lex.specs.Answers.{IsSo, Gives};
+ghost use Rattle.gk_base.specs.Answers.{IsSo, Gives};
 ghost use Rattle.nt_reader.specs.Line.{IsOver, SubjectSays, PredicateSays, EndSays, FromObject, FromPredicate, FromSubject, LineSays};
 
 use crate::lexed_triple::LexedTriple;
@@ -19,6 +19,7 @@ fn byte_at(line: &[u8], at: usize) -> u8
     if at < line.len() { line[at] } else { 0 }
 }
 
+/// Reads the subject at `at`, and gives the place after it.
 fn read_subject<'a>(
     alloc: Global,
     line: &'a [u8],
@@ -38,6 +39,7 @@ fn read_subject<'a>(
     Err(LexStop::Fault(LexFault::SubjectExpected))
 }
 
+/// Reads the predicate at `at`, and gives the place after it.
 fn read_predicate<'a>(
     alloc: Global,
     line: &'a [u8],
@@ -88,16 +90,14 @@ fn read_from_object<'a>(
     requires utf8 { IsUtf8 line.now }
     ensures { IsSo (FromObject line.now subject.entry predicate.entry at) result }
 {
-    match lex_object(alloc, line, at) {
-        Ok((object, end)) => match end_fault(line, skip_space(line, end)) {
-            None => Ok(LexedTriple {
-                subject,
-                predicate,
-                object,
-            }),
-            Some(fault) => Err(LexStop::Fault(fault)),
-        },
-        Err(stop) => Err(stop),
+    let (object, end) = lex_object(alloc, line, at)?;
+    match end_fault(line, skip_space(line, end)) {
+        None => Ok(LexedTriple {
+            subject,
+            predicate,
+            object,
+        }),
+        Some(fault) => Err(LexStop::Fault(fault)),
     }
 }
 
@@ -111,12 +111,8 @@ fn read_from_predicate<'a>(
     requires { IsUtf8 line.now }
     ensures { IsSo (FromPredicate line.now subject.entry at) result }
 {
-    match read_predicate(alloc, line, at) {
-        Ok((predicate, end)) => {
-            read_from_object(alloc, line, subject, predicate, skip_space(line, end))
-        }
-        Err(stop) => Err(stop),
-    }
+    let (predicate, end) = read_predicate(alloc, line, at)?;
+    read_from_object(alloc, line, subject, predicate, skip_space(line, end))
 }
 
 /// Reads on from the subject.
@@ -128,10 +124,8 @@ fn read_from_subject<'a>(
     requires { IsUtf8 line.now }
     ensures { IsSo (FromSubject line.now at) result }
 {
-    match read_subject(alloc, line, at) {
-        Ok((subject, end)) => read_from_predicate(alloc, line, subject, skip_space(line, end)),
-        Err(stop) => Err(stop),
-    }
+    let (subject, end) = read_subject(alloc, line, at)?;
+    read_from_predicate(alloc, line, subject, skip_space(line, end))
 }
 
 /// Reads a line as `read_line` does, and lends its terms.
@@ -148,10 +142,7 @@ pub(crate) fn line_answer<'a>(
     if is_over(line, at) {
         return Ok(None);
     }
-    match read_from_subject(alloc, line, at) {
-        Ok(triple) => Ok(Some(triple)),
-        Err(stop) => Err(stop),
-    }
+    Ok(Some(read_from_subject(alloc, line, at)?))
 }
 
 /// Reads a line, which has no line feed and no carriage return: its triple, or nothing where it is white space
@@ -164,9 +155,8 @@ pub fn read_line(alloc: Global, line: &[u8]) -> Result<Option<Triple>, LexStop>
     // What the line says was answered, unless memory ran out.
     ensures only { (answer : Result (Option Triple) LexFault) → LineSays line.now answer → Gives result answer }
 {
-    match line_answer(alloc, line) {
-        Ok(Some(triple)) => Ok(Some(triple.to_triple(alloc)?)),
-        Ok(None) => Ok(None),
-        Err(stop) => Err(stop),
+    match line_answer(alloc, line)? {
+        Some(triple) => Ok(Some(triple.to_triple(alloc)?)),
+        None => Ok(None),
     }
 }

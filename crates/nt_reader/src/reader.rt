@@ -1,10 +1,10 @@
-//! A file in pieces.
+//! Reads a file that comes in pieces.
 
 ghost use Rattle.std.specs.Prelude.{◌≡◌, ◌≢◌, ℕ, ◌≤◌, ◌+◌, ◌<◌, ◌^◌, ◌↔◌, List, [], ◌++◌, length, IfErr, IsOk, Err};
 ghost use Rattle.gk_base.specs.declared.term.Triple.{Triple};
 ghost use Rattle.gk_base.specs.declared.read_fault.ReadRefusal.{ReadRefusal};
-ghost use Rattle.gk_base.specs.declared.read_fault.ReadStop.{ReadStop};
-ghost use Rattle.gk_base.specs.declared.read_fault.ReadStop.TheVariants.{NoMemory, Refused};
+ghost use Rattle.gk_base.specs.Answers.{ReadStop, IsSo};
+ghost use Rattle.gk_base.specs.declared.stop.Stop.TheVariants.{NoMemory, Fault};
 ghost use Rattle.nt_reader.specs.Lines.{cut_of};
 ghost use Rattle.nt_reader.specs.File.{AreGood, Refuses, IsOpen};
 ghost use Rattle.nt_reader.specs.Kept.{HasRead, FinishSays};
@@ -30,7 +30,8 @@ pub struct Reader {
 }
 
 impl Model for Reader {
-    ghost use Rattle.nt_reader.specs.Reading.{Reading, so_far_of, KeepsWithin};
+    ghost use Rattle.nt_reader.specs.Keeping.{KeepsWithin};
+    ghost use Rattle.nt_reader.specs.Reading.{Reading, so_far_of};
 
     ghost Value = { Reading };
 
@@ -75,7 +76,7 @@ impl Reader {
         ensures open { IsOk result → (taken : List Triple) (seen : List ℕ) → HasRead self.old taken seen → IsOpen self.old.limits (seen ++ piece.now) }
         // It answers a refusal exactly where that refuses a byte of all that was fed so far, unless memory ran out.
         ensures refused { result ≢ Err NoMemory → (taken : List Triple) (seen : List ℕ) → HasRead self.old taken seen → (refusal : ReadRefusal) →
-            (result ≡ Err (Refused refusal)) ↔ Refuses self.old.limits (seen ++ piece.now) refusal }
+            (result ≡ Err (Fault refusal)) ↔ Refuses self.old.limits (seen ++ piece.now) refusal }
         ensures ok { IsOk result ↔ IsOk self.new.so_far }
         ensures err { IfErr result (λ stop. self.new.so_far ≡ Err stop) }
         // Once it has failed, it fails again for the same reason.
@@ -118,7 +119,7 @@ impl Reader {
     /// were taken they are the triples of the whole file, in order of their lines and with repeats. A last line without
     /// an end counts where it is not empty.
     pub fn finish(self) -> Result<Triples, ReadStop>
-        ensures says { (taken : List Triple) (bytes : List ℕ) → HasRead self taken bytes → FinishSays self.limits taken bytes result }
+        ensures says { (taken : List Triple) (bytes : List ℕ) → HasRead self taken bytes → IsSo (FinishSays self.limits taken bytes) result }
         ensures again { (stop : ReadStop) → self.so_far ≡ Err stop → result ≡ Err stop }
     {
         let Reader {
@@ -132,10 +133,7 @@ impl Reader {
             return Err(stop);
         }
         if !state.kept.is_empty() {
-            match end_line(alloc, &mut state, &[]) {
-                Ok(()) => {}
-                Err(stop) => return Err(stop),
-            }
+            end_line(alloc, &mut state, &[])?;
         }
         Ok(state.triples)
     }

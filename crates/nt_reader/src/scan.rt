@@ -7,7 +7,8 @@ ghost use Rattle.nt_reader.specs.Lines.{is_line_end, is_line_byte};
 
 use std::simd::prelude::*;
 
-/// How many bytes stand in one vector.
+/// How many bytes stand in one vector. Most lines are longer than 32 bytes, so that wide vectors pay here; the texts inside a
+/// line, which `nt_lex` scans in 16 lanes, are shorter.
 const LANES: usize = 32;
 
 /// One bit for each byte, the first the lowest: whether the byte ends a line.
@@ -18,7 +19,7 @@ fn line_ends(bytes: u8x32) -> u64
     (bytes.simd_eq(u8x32::splat(b'\n')) | bytes.simd_eq(u8x32::splat(b'\r'))).to_bitmask()
 }
 
-/// The same as `line_run`, byte by byte.
+/// The same as `line_run`, byte by byte: it reads the last bytes of a piece, which fill no vector.
 fn line_run_slowly(piece: &[u8], at: usize) -> usize
     requires { at ≤ length piece.now }
     ensures { IsRunAt is_line_byte piece.now at result }

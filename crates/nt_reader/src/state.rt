@@ -1,8 +1,11 @@
 //! What is kept of a file that comes in pieces.
+
 ghost use Rattle.std.specs.Prelude.{◌≡◌, ℕ, ◌≤◌, ◌+◌, ◌<◌, ◌^◌, ◌↔◌, true, false, List, [], ◌∷◌, ◌++◌, length, OnOk, IfErr, IsOk, IsTrue, Err};
 ghost use Rattle.gk_base.specs.declared.read_fault.ReadRefusal.{ReadRefusal};
+ghost use Rattle.gk_base.specs.declared.stop.Stop.TheVariants.{Fault};
+ghost use Rattle.gk_base.specs.Answers.{IsSo};
 ghost use Rattle.nt_reader.specs.Judged.{Judges};
-ghost use Rattle.nt_reader.specs.Kept.{Takes};
+ghost use Rattle.nt_reader.specs.Keeping.{Takes};
 
 use crate::lexed_triple::LexedTriple;
 use crate::line::line_answer;
@@ -30,9 +33,9 @@ pub(crate) struct State {
 
 /// The refusal of a line.
 fn refused(line: u64, fault: ReadFault) -> ReadStop
-    ensures { result ≡ ReadStop.Refused (record { line = line; fault = fault }) }
+    ensures { result ≡ Fault (record { line = line; fault = fault }) }
 {
-    ReadStop::Refused(ReadRefusal { line, fault })
+    ReadStop::Fault(ReadRefusal { line, fault })
 }
 
 /// Adds the triple of this line, where there may be one more.
@@ -44,21 +47,18 @@ fn add(
 ) -> Result<(), ReadStop>
     ensures ok { OnOk result (triples.new ≡ triples.old ++ triple.now ∷ []) }
     ensures few { OnOk result (length triples.new ≤ room) }
-    ensures full { (refusal : ReadRefusal) → result ≡ Err (ReadStop.Refused refusal) → room ≤ length triples.old }
-    ensures refused { (refusal : ReadRefusal) → result ≡ Err (ReadStop.Refused refusal) → refusal ≡ record { line = number; fault = ReadFault.TooManyTriples } }
+    ensures full { (refusal : ReadRefusal) → result ≡ Err (Fault refusal) → room ≤ length triples.old }
+    ensures refused { (refusal : ReadRefusal) → result ≡ Err (Fault refusal) → refusal ≡ record { line = number; fault = ReadFault.TooManyTriples } }
 {
     if triples.len() as u64 >= room {
         return Err(refused(number, ReadFault::TooManyTriples));
     }
-    let pushed = triples.push(
+    triples.push(
         &triple.subject.lent(),
         &triple.predicate.lent(),
         &triple.object.lent(),
-    );
-    match pushed {
-        Ok(()) => Ok(()),
-        Err(_) => Err(ReadStop::NoMemory),
-    }
+    )?;
+    Ok(())
 }
 
 /// Judges the line of this content.
@@ -69,7 +69,7 @@ fn judge(
     number: u64,
     content: &[u8],
 ) -> Result<(), ReadStop>
-    ensures { Judges room triples.old triples.new content.now number result }
+    ensures { IsSo (Judges room triples.old triples.new content.now number) result }
 {
     match line_answer(alloc, content) {
         Ok(None) => Ok(()),
@@ -86,14 +86,12 @@ pub(crate) fn end_line(alloc: Global, state: &mut State, part: &[u8]) -> Result<
     ensures returned { state.new.after_return ≡ state.old.after_return }
     ensures room { state.new.room ≡ state.old.room }
     ensures kept { OnOk result (state.new.kept.items ≡ []) }
-    ensures judged { Judges state.old.room state.old.triples state.new.triples (state.old.kept.items ++ part.now) state.old.line result }
+    ensures judged { IsSo (Judges state.old.room state.old.triples state.new.triples (state.old.kept.items ++ part.now) state.old.line) result }
 {
     if state.kept.is_empty() {
         return judge(alloc, state.room, &mut state.triples, state.line, part);
     }
-    if state.kept.extend_from_slice(part).is_err() {
-        return Err(ReadStop::NoMemory);
-    }
+    state.kept.extend_from_slice(part)?;
     judge(
         alloc,
         state.room,
@@ -126,15 +124,10 @@ fn take(alloc: Global, limits: &Limits, state: &mut State, piece: &[u8]) -> Resu
         let end = line_run(piece, from);
         state.bytes += (end - from) as u64;
         if end == piece.len() {
-            let Ok(()) = state.kept.extend_from_slice(&piece[from..end]) else {
-                return Err(ReadStop::NoMemory);
-            };
+            state.kept.extend_from_slice(&piece[from..end])?;
             return Ok(());
         }
-        match end_line(alloc, state, &piece[from..end]) {
-            Ok(()) => {}
-            Err(stop) => return Err(stop),
-        }
+        end_line(alloc, state, &piece[from..end])?;
         state.line += 1;
         state.bytes += 1;
         state.after_return = piece[end] == b'\r';
@@ -162,10 +155,7 @@ pub(crate) fn feed_state(
         return take(alloc, limits, state, piece);
     }
     let cut = room as usize;
-    match take(alloc, limits, state, &piece[..cut]) {
-        Ok(()) => {}
-        Err(stop) => return Err(stop),
-    }
+    take(alloc, limits, state, &piece[..cut])?;
     if state.after_return && piece[cut] == b'\n' {
         return Err(refused(state.line.saturating_sub(1), ReadFault::TooLong));
     }

@@ -1,2 +1,3 @@
-pub mod PackedLemmas
-pub mod TripleLemmas
+pub mod CallerLemmas
+mod PackedLemmas
+mod TripleLemmas

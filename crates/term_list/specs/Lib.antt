@@ -1,3 +1,5 @@
+-- what callers of this crate read
 pub mod Parts
-pub mod Packed
 pub mod Triples
+-- inner invariants and words of the proofs
+pub mod Packed

@@ -18,6 +18,3 @@ pub use kind::TermKind;
 pub use term_ref::TermRef;
 pub use terms::Terms;
 pub use triples::Triples;
-
-#[cfg(test)]
-mod tests;

@@ -1,10 +1,10 @@
 //! A list of triples.
 
-ghost use Rattle.std.specs.Prelude.{◌≡◌, ◌+◌, ◌^◌, ◌<◌, ◌≤◌, ◌++◌, ◌∷◌, [], length, drop, OnOk, OnErr, IfOk};
-ghost use Rattle.term_list.specs.Triples.{terms_of, triples_in};
+ghost use Rattle.std.specs.Prelude.{◌≡◌, ◌++◌, ◌∷◌, [], length, OnOk, OnErr};
+ghost use Rattle.term_list.specs.Triples.{terms_of};
 
 use crate::{TermRef, Terms};
-use gk_base::{NoMemory, Triple};
+use gk_base::NoMemory;
 use std::alloc::Global;
 use std::marker::Model;
 
@@ -43,19 +43,6 @@ fn push_three(
         return Err(NoMemory);
     }
     Ok(())
-}
-
-/// The triple whose terms begin at this place, with texts of its own.
-fn triple_at(alloc: Global, terms: &Terms, at: usize) -> Result<Triple, NoMemory>
-    requires within { at + 3 ≤ length terms.now }
-    requires small { at + 3 < 2 ^ 64 }
-    ensures { IfOk result (λ t. triples_in (drop at terms.now) ≡ t ∷ triples_in (drop (at + 3) terms.now)) }
-{
-    Ok(Triple {
-        subject: terms.get(at).to_term(alloc)?,
-        predicate: terms.get(at + 1).to_term(alloc)?,
-        object: terms.get(at + 2).to_term(alloc)?,
-    })
 }
 
 impl Triples {
@@ -101,18 +88,5 @@ impl Triples {
         ensures { self.new ≡ [] }
     {
         self.terms.clear();
-    }
-
-    /// The triples with texts of their own.
-    pub fn to_vec(&self, alloc: Global) -> Result<Vec<Triple>, NoMemory>
-        ensures { IfOk result (λ triples. triples.items ≡ self.now) }
-    {
-        let mut triples = Vec::with_capacity(alloc, self.terms.len() / 3)?;
-        let mut at = 0;
-        while self.terms.len() - at >= 3 {
-            triples.push(triple_at(alloc, &self.terms, at)?)?;
-            at += 3;
-        }
-        Ok(triples)
     }
 }

@@ -11,7 +11,7 @@ use Rattle.std.proofs.lemmas.List.Sums.{fails_before_first}
 use Rattle.std.proofs.lemmas.Map.Keys.{apart_from_distinct}
 use Rattle.std.proofs.lemmas.Option.{slice_get-get_or, get_or_from_slice_get, slice_get_within}
 use Rattle.gk_base.specs.declared.term.Term.{Term}
-use Rattle.term_list.proofs.PackedLemmas.{slice_get-of_push}
+use Rattle.term_list.proofs.CallerLemmas.{slice_get-of_push}
 use Rattle.term_table.specs.Marks.{IsReached, AreMarksOf, AreMarked, HasOneMore}
 use Rattle.term_table.specs.Numbering.{is_named, AreDistinct}
 use Rattle.term_table.proofs.NumberingLemmas.{slice_get-append_left, with_term-new, AreDistinct-with_term}

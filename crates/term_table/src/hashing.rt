@@ -30,7 +30,8 @@ impl TermHasher {
         TermHasher { start }
     }
 
-    /// The hash of a term.
+    /// The hash of a term. Its kind is left out: hashing it too would cost each look-up a third write, and terms of different
+    /// kinds with the same texts are so few that the marks behind a shared hash hold them.
     #[inline]
     pub(crate) fn hash_of(&self, term: &TermRef<'_>) -> u32
         ensures { result ≡ hash_of self.now term.now }

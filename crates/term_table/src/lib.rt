@@ -17,6 +17,3 @@ mod marks;
 mod names;
 
 pub use names::Names;
-
-#[cfg(test)]
-mod tests;

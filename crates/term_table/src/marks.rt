@@ -9,7 +9,8 @@ use indexmap::IndexSet;
 use std::alloc::Global;
 use term_list::{TermRef, Terms};
 
-/// The place of no term.
+/// The place of no term. No list has a term there, since there are fewer than 2^32 of them; so lists of places that may be
+/// missing take four bytes a place, and not the eight of an `Option`.
 pub(crate) const NO_PLACE: u32 = u32::MAX;
 
 /// The marks of a list's terms, in the order of the list. A term's mark is the first number from its hash on that is no mark

@@ -161,7 +161,17 @@ impl Names {
         ensures present { IsSome result ↔ Contains self.now term.now }
         ensures absent { IsNone result ↔ (Contains self.now term.now → ⊥) }
     {
-        self.marks.find(&self.terms, &TermRef::of(term))
+        self.find_ref(&TermRef::of(term))
+    }
+
+    /// The number of this term, which is lent, and `None` exactly where it is no name.
+    pub fn find_ref(&self, term: &TermRef<'_>) -> Option<u32>
+        ensures place { IfSome result (λ place. slice_get self.now place ≡ Some term.now) }
+        ensures number { IfSome result (λ place. place ≡ place_of self.now term.now) }
+        ensures present { IsSome result ↔ Contains self.now term.now }
+        ensures absent { IsNone result ↔ (Contains self.now term.now → ⊥) }
+    {
+        self.marks.find(&self.terms, term)
     }
 
     /// The term with this number.

@@ -5,7 +5,8 @@ use Rattle.std.proofs.lemmas.List.{take_more, drop-append-le, drop_all, length-t
 use Rattle.std.proofs.lemmas.List.Concat.{flat_map-append}
 use Rattle.std.specs.List.{flat_map}
 use Rattle.term_text.specs.CanonicalText.{unicode_escape}
-use Rattle.term_text.specs.Appending.{BeginsWith, written_byte, is_escaped}
+use Rattle.term_text.specs.Appending.{BeginsWith}
+use Rattle.term_text.specs.Escaping.{written_byte, is_escaped}
 use Rattle.term_text.specs.declared.escapes.Inside.{Inside}
 use Rattle.term_text.specs.declared.escapes.Inside.TheVariants.{Brackets, Quotes}
 

@@ -1,9 +1,10 @@
-pub mod AppendLemmas
-pub mod ReadBack
-pub mod Sorting
-pub mod MemberOrder
-pub mod Places
-pub mod LineSteps
-pub mod Choosing
-pub mod Ordered
-pub mod ReportLaw
+mod AppendLemmas
+pub mod CallerLemmas
+mod Choosing
+mod LineSteps
+mod MemberOrder
+mod Ordered
+mod Places
+mod ReadBack
+mod ReportLaw
+mod Sorting

@@ -1,21 +1,7 @@
 -- What appending to a buffer leaves (this project's own).
-use Rattle.std.specs.Prelude.{◌≡◌, ℕ, Bool, List, ◌++◌}
-use Rattle.term_text.specs.CanonicalText.{iri_byte, string_byte}
-use Rattle.nt_lex.specs.Chars.{is_iri_excluded, is_string_excluded}
-use Rattle.term_text.specs.declared.escapes.Inside.{Inside}
-use Rattle.term_text.specs.declared.escapes.Inside.TheVariants.{Brackets, Quotes}
+use Rattle.std.specs.Prelude.{◌≡◌, ℕ, List, ◌++◌}
 
 -- the new bytes begin with the old ones
 pub record BeginsWith (old new : List ℕ) : Type 0 where
   pub more : List ℕ
   pub is : new ≡ old ++ more
-
--- a byte as it is written in an IRI or in a string
-abbrev pub written_byte : Inside → ℕ → List ℕ
-written_byte Brackets c = iri_byte c
-written_byte Quotes c = string_byte c
-
--- whether a byte may not stand raw there (IRIREF and STRING_LITERAL_QUOTE of RDF 1.1 N-Triples, section 7)
-abbrev pub is_escaped : Inside → ℕ → Bool
-is_escaped Brackets c = is_iri_excluded c
-is_escaped Quotes c = is_string_excluded c

@@ -13,7 +13,6 @@ use term_list::{TermKind, TermRef};
 /// Appends the canonical text of a term. After `NoMemory` the buffer holds what it held before.
 pub fn put_term(buf: &mut Vec<u8>, term: &Term) -> Result<(), NoMemory>
     ensures ok { OnOk result (buf.new.items ≡ buf.old.items ++ term_text term.now) }
-
     // Reading what was appended gives the term again, where N-Triples can spell it.
     ensures read_back { OnOk result (CanBeSpelled term.now
         → Reads buf.new.items (length buf.old.items) term.now (length buf.new.items)) }
@@ -23,9 +22,8 @@ pub fn put_term(buf: &mut Vec<u8>, term: &Term) -> Result<(), NoMemory>
 }
 
 /// Appends the canonical text of a term that is lent. After `NoMemory` the buffer holds what it held before.
-pub fn put_term_ref(buf: &mut Vec<u8>, term: &TermRef<'_>) -> Result<(), NoMemory>
+pub(crate) fn put_term_ref(buf: &mut Vec<u8>, term: &TermRef<'_>) -> Result<(), NoMemory>
     ensures ok { OnOk result (buf.new.items ≡ buf.old.items ++ term_text term.now) }
-
     // Reading what was appended gives the term again, where N-Triples can spell it.
     ensures read_back { OnOk result (CanBeSpelled term.now
         → Reads buf.new.items (length buf.old.items) term.now (length buf.new.items)) }
@@ -52,6 +50,7 @@ pub fn put_triple(buf: &mut Vec<u8>, triple: &Triple) -> Result<(), NoMemory>
     done
 }
 
+/// Appends the canonical text of a triple, or a front of it where memory runs out.
 fn append_triple(buf: &mut Vec<u8>, triple: &Triple) -> Result<(), NoMemory>
     ensures ok { OnOk result (buf.new.items ≡ buf.old.items ++ triple_text triple.now) }
     ensures kept { BeginsWith buf.old.items buf.new.items }
@@ -64,6 +63,7 @@ fn append_triple(buf: &mut Vec<u8>, triple: &Triple) -> Result<(), NoMemory>
     put(buf, b" .\n")
 }
 
+/// Appends the canonical text of a term, or a front of it where memory runs out.
 fn append_term(buf: &mut Vec<u8>, term: &TermRef<'_>) -> Result<(), NoMemory>
     ensures ok { OnOk result (buf.new.items ≡ buf.old.items ++ term_text term.now) }
     ensures kept { BeginsWith buf.old.items buf.new.items }
@@ -84,6 +84,7 @@ fn append_term(buf: &mut Vec<u8>, term: &TermRef<'_>) -> Result<(), NoMemory>
     }
 }
 
+/// Appends a mark and a text as it is.
 fn append_marked(buf: &mut Vec<u8>, mark: &[u8], text: &[u8]) -> Result<(), NoMemory>
     ensures ok { OnOk result (buf.new.items ≡ buf.old.items ++ (mark.now ++ text.now)) }
     ensures kept { BeginsWith buf.old.items buf.new.items }
@@ -92,6 +93,7 @@ fn append_marked(buf: &mut Vec<u8>, mark: &[u8], text: &[u8]) -> Result<(), NoMe
     put(buf, text)
 }
 
+/// Appends an IRI between angle brackets.
 fn append_iri(buf: &mut Vec<u8>, name: &[u8]) -> Result<(), NoMemory>
     ensures ok { OnOk result (buf.new.items ≡ buf.old.items ++ iri_text name.now) }
     ensures kept { BeginsWith buf.old.items buf.new.items }
@@ -101,6 +103,7 @@ fn append_iri(buf: &mut Vec<u8>, name: &[u8]) -> Result<(), NoMemory>
     put(buf, b">")
 }
 
+/// Appends a string between quotation marks.
 fn append_string(buf: &mut Vec<u8>, form: &[u8]) -> Result<(), NoMemory>
     ensures ok { OnOk result (buf.new.items ≡ buf.old.items ++ string_text form.now) }
     ensures kept { BeginsWith buf.old.items buf.new.items }

@@ -9,8 +9,8 @@ use crate::Report;
 use crate::label_counts::LabelCounts;
 use crate::lines::class_lines;
 use crate::links::link;
-use crate::member::{Member, members_of_names, members_of_texts, sort_by_text};
-use gk_base::{NoMemory, Text};
+use crate::member::{Member, members_of_names, sort_by_text};
+use gk_base::NoMemory;
 use std::alloc::Global;
 use term_table::Names;
 
@@ -24,16 +24,6 @@ pub fn report(alloc: Global, names: &Names, labels: &[u32]) -> Result<Report, No
 {
     let counts = LabelCounts::of_labels(alloc, labels)?;
     report_of_members(alloc, members_of_names(alloc, names, labels, &counts)?)
-}
-
-/// The same report, of names that are given by their texts.
-pub fn report_of_texts(alloc: Global, texts: &[Text], labels: &[u32]) -> Result<Report, NoMemory>
-    requires { length labels.now ≡ length texts.now }
-    ensures { IfOk result (λ r. r ≡ report_text texts.now
-        (λ a b. slice_index labels.now a == slice_index labels.now b)) }
-{
-    let counts = LabelCounts::of_labels(alloc, labels)?;
-    report_of_members(alloc, members_of_texts(alloc, texts, labels, &counts)?)
 }
 
 /// The report of these members, which come by number.

@@ -3,7 +3,8 @@
 ghost use Rattle.std.specs.Prelude.{◌≡◌, ◌++◌, ◌<◌, OnOk, IsTrue};
 ghost use Rattle.std.specs.List.{flat_map};
 ghost use Rattle.term_text.specs.CanonicalText.{hex_digit as digit_of};
-ghost use Rattle.term_text.specs.Appending.{BeginsWith, written_byte, is_escaped};
+ghost use Rattle.term_text.specs.Appending.{BeginsWith};
+ghost use Rattle.term_text.specs.Escaping.{written_byte, is_escaped};
 
 use gk_base::NoMemory;
 

@@ -22,9 +22,6 @@ mod links;
 mod member;
 mod report_bytes;
 
-pub use canonical::{put_term, put_term_ref, put_triple};
-pub use class_report::{report, report_of_texts};
+pub use canonical::{put_term, put_triple};
+pub use class_report::report;
 pub use report_bytes::Report;
-
-#[cfg(test)]
-mod tests;

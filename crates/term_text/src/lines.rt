@@ -1,4 +1,4 @@
-//! The lines of the classes.
+//! The lines of the classes, one for each class of two or more.
 
 ghost use Rattle.std.specs.Prelude.{◌≡◌, ◌++◌, ◌<◌, [], IfOk, OnOk, length};
 ghost use Rattle.term_text.specs.Lines.{IsLinked, lines_after, class_text, class_from};

@@ -1,4 +1,4 @@
-//! The names that are printed.
+//! The names that are printed, with their texts and in their order.
 
 ghost use Rattle.std.specs.Prelude.{◌≡◌, IfOk, OnOk, length};
 ghost use Rattle.std.specs.List.Sorted.{IsSortedBy, IsStableBy};
@@ -6,8 +6,8 @@ ghost use Rattle.term_text.specs.CanonicalText.{term_text, texts_of};
 ghost use Rattle.term_text.specs.Labels.{is_shared_in};
 ghost use Rattle.term_text.specs.Members.{members_for, is_before};
 
+use crate::canonical::put_term_ref;
 use crate::label_counts::LabelCounts;
-use crate::put_term_ref;
 use gk_base::{NoMemory, Text};
 use std::alloc::Global;
 use term_list::{TermKind, TermRef};
@@ -18,27 +18,6 @@ use term_table::Names;
 pub struct Member {
     pub text: Text,
     pub label: u32,
-}
-
-/// The names whose labels are shared, ascending by number.
-pub fn members_of_texts(
-    alloc: Global,
-    texts: &[Text],
-    labels: &[u32],
-    counts: &LabelCounts,
-) -> Result<Vec<Member>, NoMemory>
-    requires { length labels.now ≡ length texts.now }
-    ensures { IfOk result (λ v. v.items ≡ members_for texts.now labels.now (is_shared_in counts.now)) }
-{
-    let mut members = Vec::new(alloc);
-    for place in 0..labels.len() {
-        let label = labels[place];
-        if counts.is_shared(label) {
-            let text = texts[place].copy()?;
-            members.push(Member { text, label })?;
-        }
-    }
-    Ok(members)
 }
 
 /// The names whose labels are shared, ascending by number.

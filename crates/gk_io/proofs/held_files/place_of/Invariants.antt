@@ -1,6 +1,5 @@
 use Rattle.std.proofs.Common.{◌≡◌, drop}
-use Rattle.gk_io.specs.Files.{bytes_of}
-use Rattle.gk_io.specs.HeldFiles.{contents_of, has_file}
+use Rattle.gk_io.specs.Files.{bytes_of, contents_of, has_file}
 use Rattle.gk_io.proofs.held_files.place_of.Given as goal
 
 abbrev pub invariant-loop-place : goal.invariant-loop-place

@@ -1,7 +1,7 @@
 use Rattle.std.proofs.Common.{◌∷◌, []}
 use Rattle.std.proofs.lemmas.Result.{on_ok_weaker}
 use Rattle.term_text.specs.CanonicalText.{term_text}
-use Rattle.term_text.proofs.AppendLemmas.{pieces_joined}
+use Rattle.term_text.proofs.CallerLemmas.{pieces_joined}
 use Rattle.key_lang.specs.CanonicalKeys.{node_at}
 use Rattle.key_lang.proofs.canonical.put_triple.Goals as goal
 

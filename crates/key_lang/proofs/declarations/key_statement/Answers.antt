@@ -1,21 +1,26 @@
-use Rattle.key_lang.proofs.AnswerLemmas.{then_stop, then_so, close_so, open_so}
-use Rattle.key_lang.specs.declared.fault.LineStop.TheVariants.{Fault}
-use Rattle.key_lang.specs.declared.fault.KeyFault.TheVariants.{UnknownStatement}
 use Rattle.std.proofs.Common.{Err}
+use Rattle.std.proofs.lemmas.Result.{err_from_is_err_and}
+use Rattle.gk_base.specs.declared.stop.Stop.TheVariants.{Fault}
+use Rattle.key_lang.specs.declared.fault.KeyFault.TheVariants.{UnknownStatement}
+use Rattle.key_lang.proofs.AnswerLemmas.{then_stop, then_so, close_so, open_so}
 use Rattle.key_lang.proofs.declarations.key_statement.Goals as goal
 
-pub returns-in-Err : goal.returns-in-Err
-returns-in-Err c = then_stop _ _ c.in-Err.stop c.in-Err.ensures.so
+pub returns-in_err-name : goal.returns-in_err-name
+returns-in_err-name c =
+    let p = err_from_is_err_and c.from_residual.result c.from_residual.ensures.1 in
+    rw (p.1, p.2) (then_stop _ _ c.in_err-name.field-0.0 c.in_err-name.ensures.so)
 
-pub returns-in-Err-read_type : goal.returns-in-Err-read_type
-returns-in-Err-read_type c = then_so _ _ c.in-Ok.read (Err c.in-Err-read_type.stop) c.in-Ok.ensures.so (then_stop _ _ c.in-Err-read_type.stop c.in-Err-read_type.ensures.so)
+pub returns-in_err-kind : goal.returns-in_err-kind
+returns-in_err-kind c =
+    let p = err_from_is_err_and c.from_residual-in_err-kind.result c.from_residual-in_err-kind.ensures.1 in
+    rw (p.1, p.2) (then_so _ _ (c.in_ok-name.name, c.in_ok-name.end) (Err c.in_err-kind.field-0.0) c.in_ok-name.ensures.so (then_stop _ _ c.in_err-kind.field-0.0 c.in_err-kind.ensures.so))
 
 pub returns-then-not-closes : goal.returns-then-not-closes
 returns-then-not-closes c =
-    then_so _ _ c.in-Ok.read (Err (Fault UnknownStatement)) c.in-Ok.ensures.so (then_so _ _ c.in-Ok-read_type.read (Err (Fault UnknownStatement)) c.in-Ok-read_type.ensures.so
+    then_so _ _ (c.in_ok-name.name, c.in_ok-name.end) (Err (Fault UnknownStatement)) c.in_ok-name.ensures.so (then_so _ _ (c.in_ok-kind.kind, c.in_ok-kind.end) (Err (Fault UnknownStatement)) c.in_ok-kind.ensures.so
     (open_so _ _ _ c.closes.result c.closes.ensures c.if-not-closes.true))
 
 pub returns : goal.returns
 returns c =
-    then_so _ _ c.in-Ok.read c.begin.result c.in-Ok.ensures.so (then_so _ _ c.in-Ok-read_type.read c.begin.result c.in-Ok-read_type.ensures.so
+    then_so _ _ (c.in_ok-name.name, c.in_ok-name.end) c.begin.result c.in_ok-name.ensures.so (then_so _ _ (c.in_ok-kind.kind, c.in_ok-kind.end) c.begin.result c.in_ok-kind.ensures.so
     (close_so _ _ _ c.begin.result c.closes.result c.closes.ensures c.if-not-closes.false c.begin.ensures))

@@ -1,14 +1,16 @@
 use Rattle.std.proofs.Common.{◌≡◌, ℕ, ◌<◌, Bool, false, ◌&&◌, eqb, List, length, get_or, slice_range, Err, None, sym, ap, ◌∙◌, subst, arith}
 use Rattle.std.proofs.lemmas.Bool.{and_left, and_right, ne_eqb}
+use Rattle.std.proofs.lemmas.Result.{err_from_is_err_and}
+use Rattle.gk_base.specs.Answers.{IsSo}
 use Rattle.nt_lex.specs.Scans.{IsRunAt}
 use Rattle.nt_reader.specs.Lines.{is_line_byte}
-use Rattle.nt_reader.proofs.StateLemmas.{length-range}
+use Rattle.nt_reader.proofs.CallerLemmas.{length-range}
 use Rattle.key_file.specs.KeyShape.{KeyShape}
-use Rattle.key_lang.specs.declared.fault.KeyStop.{KeyStop}
-use Rattle.key_lang.specs.declared.fault.KeyStop.TheVariants.{NoMemory, Refused}
+use Rattle.key_lang.specs.Answers.{KeyStop}
+use Rattle.gk_base.specs.declared.stop.Stop.TheVariants.{NoMemory, Fault}
 use Rattle.key_lang.specs.OpenKey.{KeyState}
 use Rattle.key_lang.specs.declared.file.Seen.{Seen}
-use Rattle.key_lang.specs.Seen.{IsJudged, SeesLines}
+use Rattle.key_lang.specs.Seen.{NumberedSays, SeesLines}
 use Rattle.key_lang.proofs.SeenLemmas.{IsAt, at_start, at_feed, at_line, at_fault, at_end, at_rest}
 use Rattle.key_lang.proofs.file.see_lines.Goals as goal
 use Rattle.key_lang.proofs.file.see_lines.Goals.{else-lines-test, then-lines-test+else-after_return+then-end-front, else-after_return-via-then-after_return+else-front-from-eq10, else-after_return-via-else-after_return}
@@ -22,9 +24,9 @@ owned front from end returned run not z =
 
 fault_so : (front : List ℕ) (from number end : ℕ) (returned : Bool) (state : KeyState) → IsAt front from number returned state → IsRunAt is_line_byte front from end → end < length front
     → (length (slice_range front from end) ≡ 0 → (eqb (get_or front end 0) 0x0A && returned) ≡ false)
-    → (stop : KeyStop) → IsJudged state (slice_range front from end) number (Err stop) → SeesLines front (Err stop)
+    → (stop : KeyStop) → IsSo (NumberedSays state (slice_range front from end) number) (Err stop) → IsSo (SeesLines front) (Err stop)
 fault_so front from number end returned state a run inside own NoMemory j = tt
-fault_so front from number end returned state a run inside own (Refused refusal) j = at_fault front from number returned state a end run inside own refusal j.0 j.1
+fault_so front from number end returned state a run inside own (Fault refusal) j = at_fault front from number returned state a end run inside own refusal j.0 j.1
 
 pub lines-init : goal.lines-init
 lines-init c =
@@ -35,17 +37,19 @@ pub lines-preserved-then-front-from-eq10 : goal.lines-preserved-then-front-from-
 lines-preserved-then-front-from-eq10 c =
     at_feed c.args.front.now c.lines.from c.lines.number c.lines.after_return c.lines.state c.lines.invariant c.if-after_return.true c.lines-test.true c.if-front-from-eq10.true
 
-pub returns-in-Err : goal.returns-in-Err
-returns-in-Err c =
+pub returns-in_err-state : goal.returns-in_err-state
+returns-in_err-state c =
     let front = c.args.front.now in
     let from = c.lines.from in
     let end = c.line_run-end.result in
     let run = c.line_run-end.ensures in
-    fault_so front from c.lines.number end c.lines.after_return c.lines.state c.lines.invariant run (omega (arith, run.in_range, c.if-end-front.false))
+    let p = err_from_is_err_and c.from_residual.result c.from_residual.ensures.1 in
+    rw (p.1, p.2)
+    (fault_so front from c.lines.number end c.lines.after_return c.lines.state c.lines.invariant run (omega (arith, run.in_range, c.if-end-front.false))
     (λ z. elim c.else-after_return.branch [
       | else-after_return-via-then-after_return+else-front-from-eq10 w ↦ owned front from end c.lines.after_return run w.if-front-from-eq10.false z
       | else-after_return-via-else-after_return w ↦ and_right _ _ w.if-after_return.false
-    ]) c.in-Err.stop c.in-Err.ensures
+    ]) c.in_err-state.field-0.0 c.in_err-state.ensures)
 
 pub lines-preserved : goal.lines-preserved
 lines-preserved c =
@@ -57,7 +61,7 @@ lines-preserved c =
     (λ z. elim c.else-after_return.branch [
       | else-after_return-via-then-after_return+else-front-from-eq10 w ↦ owned front from end c.lines.after_return run w.if-front-from-eq10.false z
       | else-after_return-via-else-after_return w ↦ and_right _ _ w.if-after_return.false
-    ]) c.in-Ok.next c.in-Ok.ensures
+    ]) c.in_ok-state.state c.in_ok-state.ensures
 
 pub returns : goal.returns
 returns c =

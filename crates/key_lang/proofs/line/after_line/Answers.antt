@@ -1,5 +1,5 @@
 use Rattle.std.proofs.Common.{sym, ◌∙◌, refl}
-use Rattle.nt_reader.proofs.LineLemmas.{true_false}
+use Rattle.nt_reader.proofs.CallerLemmas.{true_false}
 use Rattle.key_lang.specs.Answers.{yes}
 use Rattle.key_lang.specs.Statements.{no_text, text}
 use Rattle.key_lang.proofs.StatementLemmas.{text_so}

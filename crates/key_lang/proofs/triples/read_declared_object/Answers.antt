@@ -1,10 +1,13 @@
 use Rattle.std.proofs.Common.{refl}
+use Rattle.std.proofs.lemmas.Result.{err_from_is_err_and}
 use Rattle.key_lang.specs.Answers.{goes_on}
 use Rattle.key_lang.proofs.AnswerLemmas.{then_stop}
 use Rattle.key_lang.proofs.triples.read_declared_object.Goals as goal
 
-pub returns-in-Ok-clause-so : goal.returns-in-Ok-clause-so
-returns-in-Ok-clause-so c = goes_on c.in-Ok.ensures.so refl
+pub returns-clause-so : goal.returns-clause-so
+returns-clause-so c = goes_on c.in_ok-place.ensures.so refl
 
-pub returns-in-Err-clause-so : goal.returns-in-Err-clause-so
-returns-in-Err-clause-so c = then_stop _ _ c.in-Err.stop c.in-Err.ensures.so
+pub returns-in_err-place-clause-so : goal.returns-in_err-place-clause-so
+returns-in_err-place-clause-so c =
+    let p = err_from_is_err_and c.from_residual.result c.from_residual.ensures.1 in
+    rw (p.1, p.2) (then_stop _ _ c.in_err-place.field-0.0 c.in_err-place.ensures.so)

@@ -4,8 +4,8 @@ use Rattle.nt_lex.specs.Chars.{is_absolute}
 use Rattle.nt_lex.proofs.PartLemmas.{iri_closed}
 use Rattle.nt_lex.proofs.iri.iri_text.Goals as goal
 
-pub returns-then-is_absolute-clause-found : goal.returns-then-is_absolute-clause-found
-returns-then-is_absolute-clause-found c =
+pub returns-then-is_absolute : goal.returns-then-is_absolute
+returns-then-is_absolute c =
     let line = c.args.line.now in
     let end = c.in_ok-text.end in
     let before : end < length line = omega (arith, c.in_ok-text.ensures.within, c.if-end-line.false) in

@@ -1,5 +1,5 @@
 use Rattle.std.proofs.Common.{arith}
-use Rattle.nt_lex.specs.Answers.{IsSo}
+use Rattle.gk_base.specs.Answers.{IsSo}
 use Rattle.nt_lex.specs.Reading.{Says}
 use Rattle.nt_lex.proofs.AnswerLemmas.{only_from, owned_so}
 use Rattle.nt_lex.proofs.ReadingLemmas.{says_once}

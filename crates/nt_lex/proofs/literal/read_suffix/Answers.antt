@@ -1,12 +1,13 @@
 use Rattle.std.proofs.Common.{◌≡◌, ◌+◌, sym, ap, ◌∙◌, subst, get_or, map, slice_range}
+use Rattle.std.proofs.lemmas.Result.{err_from_is_err_and}
 use Rattle.std.specs.Char.{to_ascii_lowercase}
 use Rattle.std.specs.Cow.{cow_slice_items}
 use Rattle.gk_base.specs.declared.term.Term.TheVariants.{Lang}
-use Rattle.nt_lex.specs.Answers.{IsSo}
+use Rattle.gk_base.specs.Answers.{IsSo}
 use Rattle.nt_lex.specs.Parts.{SuffixAt, SuffixSays}
 use Rattle.nt_lex.proofs.AnswerParts.{plain_so, tagged_so, untagged_so, typed_so, mistyped_so, untyped_so}
 use Rattle.nt_lex.proofs.literal.read_suffix.Goals as goal
-use Rattle.nt_lex.proofs.literal.read_suffix.Goals.{in-Ok, in-Err, in-Some+in_ok-tag-in-Some, in-None, else-byte_at-eq94-via-then-byte_at-eq94+else-byte_at-eq94-2, else-byte_at-eq94-via-else-byte_at-eq94}
+use Rattle.nt_lex.proofs.literal.read_suffix.Goals.{in-Some+in_ok-tag-in-Some, in-None, else-byte_at-eq94-via-then-byte_at-eq94+else-byte_at-eq94-2, else-byte_at-eq94-via-else-byte_at-eq94}
 
 pub returns-then-byte_at-ne60 : goal.returns-then-byte_at-ne60
 returns-then-byte_at-ne60 c =
@@ -16,22 +17,17 @@ returns-then-byte_at-ne60 c =
 
 pub returns-then-byte_at-eq94-2 : goal.returns-then-byte_at-eq94-2
 returns-then-byte_at-eq94-2 c =
-    let line = c.args.line.now in
-    let form = cow_slice_items c.args.form in
-    let next = c.skip_space-next.result in
-    let begin = c.skip_space-begin.result in
-    let first : get_or line next 0 ≡ 0x5E = sym c.byte_at.ensures ∙ c.if-byte_at-eq94.true in
-    let other : get_or line (next + 1) 0 ≡ 0x5E = sym c.byte_at-then-byte_at-eq94.ensures ∙ c.if-byte_at-eq94-2.true in
-    let opens : get_or line begin 0 ≡ 0x3C = sym c.byte_at-then-byte_at-eq94-2.ensures ∙ c.if-byte_at-ne60.false in
-    elim c.match-iri_text.branch [
-      | in-Ok w ↦
-          subst (IsSo (SuffixSays line form c.args.close)) (sym w.result-is)
-          (typed_so line c.args.close next c.skip_space-next.ensures first other begin c.skip_space-begin.ensures form (cow_slice_items w.in-Ok.iri) w.in-Ok.end w.with_datatype.result
-          c.requires.inside w.in-Ok.ensures.found w.with_datatype.ensures)
-      | in-Err w ↦
-          subst (IsSo (SuffixSays line form c.args.close)) (sym w.result-is)
-          (mistyped_so line c.args.close next c.skip_space-next.ensures first other begin c.skip_space-begin.ensures form w.in-Err.stop opens w.in-Err.ensures.fails)
-    ]
+    typed_so c.args.line.now c.args.close c.skip_space-next.result c.skip_space-next.ensures (sym c.byte_at.ensures ∙ c.if-byte_at-eq94.true)
+    (sym c.byte_at-then-byte_at-eq94.ensures ∙ c.if-byte_at-eq94-2.true) c.skip_space-begin.result c.skip_space-begin.ensures
+    (cow_slice_items c.args.form) (cow_slice_items c.in_ok-iri.iri) c.in_ok-iri.end c.with_datatype.result c.requires.inside c.in_ok-iri.ensures c.with_datatype.ensures
+
+pub returns-in_err-iri : goal.returns-in_err-iri
+returns-in_err-iri c =
+    let p = err_from_is_err_and c.from_residual.result c.from_residual.ensures.1 in
+    rw (p.1, p.2)
+    (mistyped_so c.args.line.now c.args.close c.skip_space-next.result c.skip_space-next.ensures (sym c.byte_at.ensures ∙ c.if-byte_at-eq94.true)
+    (sym c.byte_at-then-byte_at-eq94.ensures ∙ c.if-byte_at-eq94-2.true) c.skip_space-begin.result c.skip_space-begin.ensures
+    (cow_slice_items c.args.form) c.in_err-iri.field-0.0 (sym c.byte_at-then-byte_at-eq94-2.ensures ∙ c.if-byte_at-ne60.false) c.in_err-iri.ensures)
 
 pub returns-then-byte_at-eq64 : goal.returns-then-byte_at-eq64
 returns-then-byte_at-eq64 c =

@@ -1,5 +1,5 @@
 use Rattle.std.proofs.Common.{arith}
-use Rattle.nt_lex.proofs.LaneLemmas.{marks_equal, marks_either, bits_of_marks}
+use Rattle.nt_lex.proofs.CallerLemmas.{marks_equal, marks_either, bits_of_marks}
 use Rattle.nt_reader.specs.Lines.{is_line_end}
 use Rattle.nt_reader.proofs.scan.line_ends.Goals as goal
 

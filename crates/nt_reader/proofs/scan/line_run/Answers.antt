@@ -1,7 +1,7 @@
 use Rattle.std.proofs.Common.{◌+◌, ◌<◌, sym, ◌∙◌, subst, arith}
 use lib.Count.{count_trailing_zeros}
 use Rattle.nt_lex.specs.Scans.{IsRunAt}
-use Rattle.nt_lex.proofs.LaneLemmas.{run_ends_in, run_goes_on, run_from}
+use Rattle.nt_lex.proofs.CallerLemmas.{run_ends_in, run_goes_on, run_from}
 use Rattle.nt_reader.specs.Lines.{is_line_end, is_line_byte}
 use Rattle.nt_reader.proofs.scan.line_run.Goals as goal
 

@@ -4,9 +4,10 @@ use Rattle.std.proofs.lemmas.List.{take_more, take_all, take-append-drop}
 use Rattle.std.specs.List.{AllPass}
 use Rattle.gk_base.specs.declared.limits.Limits.{Limits}
 use Rattle.gk_base.specs.declared.term.Triple.{Triple}
-use Rattle.gk_base.specs.declared.read_fault.ReadStop.{ReadStop}
-use Rattle.gk_base.specs.declared.read_fault.ReadStop.TheVariants.{NoMemory, Refused}
+use Rattle.gk_base.specs.Answers.{ReadStop, IsSo}
+use Rattle.gk_base.specs.declared.stop.Stop.TheVariants.{NoMemory, Fault}
 use Rattle.std.proofs.Common.{Err}
+use Rattle.std.proofs.lemmas.Result.{err_from_is_err_and}
 use Rattle.nt_reader.specs.Lines.{is_line_byte}
 use Rattle.nt_reader.specs.declared.state.State.{State}
 use Rattle.nt_reader.specs.Judged.{Judges}
@@ -51,15 +52,15 @@ returns-then-end-piece-clause-takes c =
     seg (range_passes is_line_byte piece from end run.in_range run.pass)
     (omega (arith, long, c.lines-test.true, c.if-end-piece.true))
     (omega (arith, long, c.requires.room, c.lines.invariant.bytes, run.ordered, run.in_range))
-    (ap (λ n. old.bytes + n) (sym long)) c.in-Ok.ensures.items refl refl refl refl in
+    (ap (λ n. old.bytes + n) (sym long)) c.in_ok-extend_from_slice.ensures.items refl refl refl refl in
     moved c.args.limits.now _ taken _ _
     (append_assoc seen (take from piece) seg ∙ ap (λ (l : List ℕ). seen ++ l) (sym (take_part piece from end run.ordered) ∙ take_all end piece (omega (arith, c.if-end-piece.true)))) step
 
 stopped : (limits : Limits) (old : State) (taken : List Triple) (seen : List ℕ) (s : IsFrontOf limits (front_of old) taken seen) (seg : List ℕ) (b : ℕ) (p : AllPass is_line_byte seg) (e : is_line_byte b ≡ false)
     (own : length seg ≡ 0 → (eqb b 0x0A && old.after_return) ≡ false) (room : old.bytes + length seg + 1 ≤ limits.bytes) (new : List Triple) (stop : ReadStop)
-    → Judges {A = Unit {0}} old.room old.triples new (old.kept.items ++ seg) old.line (Err stop) → IsStopped limits (seen ++ (seg ++ b ∷ [])) stop
+    → IsSo (Judges {A = Unit {0}} old.room old.triples new (old.kept.items ++ seg) old.line) (Err stop) → IsStopped limits (seen ++ (seg ++ b ∷ [])) stop
 stopped limits old taken seen s seg b p e own room new NoMemory j = tt
-stopped limits old taken seen s seg b p e own room new (Refused r) j = stops_line limits old taken seen s seg b p e own room r j
+stopped limits old taken seen s seg b p e own room new (Fault r) j = stops_line limits old taken seen s seg b p e own room r j
 
 and_false : (x : Bool) → (x && false) ≡ false
 and_false true = refl
@@ -69,8 +70,8 @@ and_first : (x y : Bool) → x ≡ false → (x && y) ≡ false
 and_first true y e = absurd (cc)
 and_first false y e = refl
 
-pub returns-in-Err-clause-takes : goal.returns-in-Err-clause-takes
-returns-in-Err-clause-takes c =
+pub returns-in_err-end_line-clause-takes : goal.returns-in_err-end_line-clause-takes
+returns-in_err-end_line-clause-takes c =
     let limits = c.args.limits.now in
     let piece = c.args.piece.now in
     let from = c.lines.from in
@@ -88,13 +89,15 @@ returns-in-Err-clause-takes c =
       | else-state-via-else-state w ↦ ap (λ r. eqb (get_or piece end 0) 0x0A && r) w.if-state.false ∙ and_false _
     ]
     in
-    λ taken seen s.
+    let p = err_from_is_err_and c.from_residual-in_err-end_line.result c.from_residual-in_err-end_line.ensures.1 in
+    rw (p.1, p.2)
+    (λ taken seen s.
     let one = stopped limits old taken (seen ++ take from piece) (c.lines.invariant.stands taken seen s) seg (get_or piece end 0)
     (range_passes is_line_byte piece from end run.in_range run.pass) (run.stops inside) own
-    (omega (arith, long, inside, c.requires.room, c.lines.invariant.bytes, run.ordered)) c.end_line.new.state.triples c.in-Err.stop c.in-Err.ensures.judged in
-    stopped_more limits _ (seen ++ piece) (drop (end + 1) piece) c.in-Err.stop
+    (omega (arith, long, inside, c.requires.room, c.lines.invariant.bytes, run.ordered)) c.end_line.new.state.triples c.in_err-end_line.field-0.0 c.in_err-end_line.ensures.judged in
+    stopped_more limits _ (seen ++ piece) (drop (end + 1) piece) c.in_err-end_line.field-0.0
     (ap (λ (l : List ℕ). l ++ drop (end + 1) piece) (append_assoc seen (take from piece) (seg ++ get_or piece end 0 ∷ []) ∙ ap (λ (l : List ℕ). seen ++ l) (sym (take_line piece from end run.ordered inside)))
-    ∙ append_assoc seen (take (end + 1) piece) (drop (end + 1) piece) ∙ ap (λ (l : List ℕ). seen ++ l) (take-append-drop (end + 1) piece)) one
+    ∙ append_assoc seen (take (end + 1) piece) (drop (end + 1) piece) ∙ ap (λ (l : List ℕ). seen ++ l) (take-append-drop (end + 1) piece)) one)
 
 pub lines-preserved : goal.lines-preserved
 lines-preserved c =
@@ -115,7 +118,7 @@ lines-preserved c =
       | else-state-via-else-state w ↦ ap (λ r. eqb (get_or piece end 0) 0x0A && r) w.if-state.false ∙ and_false _
     ]
     in
-    let e = c.in-Ok-end_line.ensures in
+    let e = c.in_ok-end_line.ensures in
     record {
       inside = omega arith;
       bytes = omega (arith, e.bytes, c.lines.invariant.bytes, run.ordered);

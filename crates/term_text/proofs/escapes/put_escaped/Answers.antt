@@ -1,6 +1,7 @@
 use Rattle.std.proofs.Common.{◌≡◌, ◌+◌, ◌-◌, ◌<◌, ◌≤◌, ◌++◌, take, drop, length, get_or, arith, sym, ap, ◌∙◌, subst}
 use Rattle.std.proofs.lemmas.List.{drop-take}
-use Rattle.term_text.specs.Appending.{BeginsWith, written_byte}
+use Rattle.term_text.specs.Appending.{BeginsWith}
+use Rattle.term_text.specs.Escaping.{written_byte}
 use Rattle.term_text.proofs.AppendLemmas.{begins_then, raw_byte, byte_passed, byte_escaped}
 use Rattle.term_text.proofs.escapes.put_escaped.Goals as goal
 use Rattle.term_text.proofs.escapes.put_escaped.Goals.{then-escapes+in_ok-put+in_ok-put_escape, else-escapes}

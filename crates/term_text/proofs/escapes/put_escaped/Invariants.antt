@@ -1,6 +1,7 @@
 use Rattle.std.proofs.Common.{◌≡◌, ◌++◌, ◌≤◌, take, drop}
 use Rattle.std.specs.List.{flat_map}
-use Rattle.term_text.specs.Appending.{BeginsWith, written_byte}
+use Rattle.term_text.specs.Appending.{BeginsWith}
+use Rattle.term_text.specs.Escaping.{written_byte}
 use Rattle.term_text.proofs.escapes.put_escaped.Given as goal
 
 abbrev pub invariant-loop-place : goal.invariant-loop-place

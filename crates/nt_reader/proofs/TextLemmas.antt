@@ -1,18 +1,24 @@
--- What spells a term is text without line ends.
-use Rattle.std.proofs.Common.{◌≡◌, ℕ, ◌+◌, ◌/◌, ◌%◌, ◌<◌, ◌≤◌, Bool, true, false, ltb, List, [], ◌∷◌, ◌++◌, IsUtf8, refl, sym, ap, ◌∙◌, subst, arith, inl, inr, lit<}
+-- What spells a term is text without line ends, and what such texts make as lines.
+use Rattle.std.proofs.Common.{◌≡◌, ℕ, ◌+◌, ◌/◌, ◌%◌, ◌<◌, ◌≤◌, Bool, true, false, not, ◌||◌, ◌==◌, ltb, List, [], ◌∷◌, ◌++◌, IsUtf8, refl, sym, ap, ap₂, ◌∙◌, subst, arith, inl, inr, lit<, append_assoc, append-nil}
 use Rattle.std.proofs.lemmas.Bool.{and_parts, and_from, cond_both, cases_lt, not-true, true≢false}
 use Rattle.std.proofs.lemmas.Bool.Decides.{nat_tests}
 use Rattle.std.proofs.lemmas.List.Folds.{list_all-append}
 use Rattle.std.proofs.lemmas.Str.{IsUtf8-append, IsUtf8-nil, IsUtf8-encode, encode_ascii}
-use Rattle.std.specs.List.{list_all}
+use Rattle.std.specs.List.{flat_map, list_all}
 use Rattle.std.specs.Char.{is_digit as is_digit_of}
-use lib.Utf8.{encode, scalar, low_scalar}
+use lib.Utf8.{encode, encodes, scalar, low_scalar}
 use Rattle.gk_base.specs.declared.term.Term.{Term}
-use Rattle.nt_lex.specs.Chars.{is_blank, is_letter, is_letter_or_digit, is_iri_excluded, is_string_excluded, is_escape_letter}
+use Rattle.nt_lex.specs.Chars.{is_between, is_blank, is_digit, is_letter, is_letter_or_digit, is_pn_chars_u, is_label_first, is_label_inner, is_iri_excluded, is_string_excluded, is_escape_letter}
 use Rattle.nt_lex.specs.Written.{Written, Raw, Short, Long, Letter, spelled, is_hex, is_code, is_no_letter, may_stand, spelling}
 use Rattle.nt_lex.specs.Spelling.{SpellsIri, SpellsString, is_subtag, dashed, IsTag, SpellsSuffix, plain, typed, tagged, Spells, iri, blank, literal}
-use Rattle.nt_lex.proofs.TagLemmas.{subtag_all, primary_all}
-use Rattle.nt_reader.specs.Lines.{is_line_byte}
+use Rattle.nt_lex.proofs.CallerLemmas.{subtag_all, primary_all}
+use Rattle.nt_reader.specs.Lines.{is_line_byte, cut_of, last_of, lines, Lined, rest, feed}
+use Rattle.nt_reader.proofs.LinedLemmas.{cut_lined, lined_once}
+
+-- each of the list
+abbrev pub AllOf : {X : Type 0} → (X → Type 0) → List X → Type 0
+AllOf P [] = Unit {0}
+AllOf P (x ∷ xs) = P x × AllOf P xs
 
 -- text without line ends
 pub record IsText (bytes : List ℕ) : Type 0 where
@@ -172,9 +178,55 @@ text_suffix piece form t (typed {iri = i} {datatype = d} carets spells has) =
 text_suffix piece form t (tagged {tag = tag} at is) =
     subst IsText (sym at.whole) (text_append at.gap _ (text_blanks at.gap at.before) (text_cons 0x40 tag (lit< tt) refl (text_tag tag is)))
 
--- a term that is no blank node
-pub text_term : (piece : List ℕ) (t : Term) → Spells piece t → ((more : List ℕ) → piece ≡ 0x5F ∷ more → ⊥) → IsText piece
-text_term piece t (iri {text = text} s) other = text_iri piece text s
-text_term piece t (blank {label = label} s) other = absurd (other _ s.whole)
-text_term piece t (literal {string = string} {form = form} {suffix = suffix} s rest whole) other =
-    subst IsText (sym whole) (text_append string suffix (text_string string form s) (text_suffix suffix form t rest))
+-- a label
+label_scalar : (c : ℕ) → is_label_inner c ≡ true → scalar c ≡ true
+label_scalar c h = grind (arith, nat_tests)
+
+label_ends : (c : ℕ) → is_line_byte c ≡ false → not (is_label_inner c) ≡ true
+label_ends c h = grind (arith, nat_tests)
+
+label_begins : (c : ℕ) → is_label_first c ≡ true → is_label_inner c ≡ true
+label_begins c h = wider (is_pn_chars_u c) (c == 0x2D) (is_digit c) (c == 0xB7) (is_between 0x300 0x36F c) (is_between 0x203F 0x2040 c) (c == 0x2E) h
+  where
+    wider : (u a d e f g z : Bool) → (u || d) ≡ true → (u || a || d || e || f || g || z) ≡ true
+    wider true a d e f g z h = refl
+    wider false true d e f g z h = refl
+    wider false false true e f g z h = refl
+    wider false false false e f g z h = absurd (true≢false (sym h))
+
+text_label : (cs : List ℕ) → list_all is_label_inner cs ≡ true → IsText (encodes cs)
+text_label [] a = text_nil
+text_label (c ∷ cs) a =
+    let parts = and_parts _ _ a in
+    text_append (encode c) (encodes cs)
+    (text_raw (λ b. not (is_label_inner b)) is_no_letter label_ends (λ l e. absurd (true≢false (sym e))) (λ l e. absurd (true≢false (sym e))) c (label_scalar c parts.0) (ap not parts.0))
+    (text_label cs parts.1)
+
+-- a term
+pub text_term : (piece : List ℕ) (t : Term) → Spells piece t → IsText piece
+text_term piece t (iri {text = text} s) = text_iri piece text s
+text_term piece t (blank {label = label} s) =
+    subst IsText (sym (s.whole ∙ ap (λ l. 0x5F ∷ 0x3A ∷ l) s.says))
+    (text_cons 0x5F _ (lit< tt) refl (text_cons 0x3A _ (lit< tt) refl (text_label (s.first ∷ s.others) (and_from _ _ (label_begins s.first s.begins) s.each))))
+text_term piece t (literal {string = string} {form = form} {suffix = suffix} s after whole) =
+    subst IsText (sym whole) (text_append string suffix (text_string string form s) (text_suffix suffix form t after))
+
+-- ---- lines
+
+-- a line with its end, and lines
+abbrev pub with_end : List ℕ → List ℕ
+with_end line = line ++ 0x0A ∷ []
+
+abbrev pub joined : List (List ℕ) → List ℕ
+joined content = flat_map with_end content
+
+pub joined_lined : (content : List (List ℕ)) → AllOf IsText content → Lined content [] (joined content)
+joined_lined [] a = rest refl
+joined_lined (line ∷ content) a = feed a.0.line (joined_lined content a.1) (append_assoc line (0x0A ∷ []) (joined content))
+
+-- they are the lines of what they make
+pub lines_joined : (content : List (List ℕ)) → AllOf IsText content → lines (joined content) ≡ content
+lines_joined content a =
+    let all = joined content in
+    let same = lined_once (cut_of all).ended content (cut_of all).rest [] all (cut_lined all) (joined_lined content a) in
+    ap₂ (λ (l : List (List ℕ)) r. l ++ last_of r) same.0 same.1 ∙ append-nil content
