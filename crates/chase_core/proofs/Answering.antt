@@ -8,7 +8,7 @@ use Rattle.chase_laws.specs.Joined.{joined_by, Joined}
 use Rattle.chase_laws.specs.Valuation.{Matches}
 use Rattle.chase_laws.specs.View.{label_in, same_by}
 use Rattle.chase_laws.specs.Core.{Task, IsTask, PairAt, EndsJoined, ListsNear}
-use Rattle.chase_laws.proofs.CoreEvents.{near_named}
+use Rattle.chase_laws.proofs.CallerLemmas.{near_named}
 use Rattle.paired_search.specs.Held.{Ascends}
 use Rattle.class_book.specs.Classes.{Classes}
 use Rattle.chase_core.specs.declared.ticket.Ticket.{Ticket}
@@ -19,7 +19,8 @@ use Rattle.chase_core.specs.declared.ticket.Settled.TheVariants as settled
 use Rattle.chase_core.specs.Setup.{Preparation}
 use Rattle.chase_core.specs.Table.{Standings}
 use Rattle.chase_core.specs.Running.{Running, state_of, state_in, running_with}
-use Rattle.chase_core.specs.Settling.{SettlesMissed, Settles, Notes}
+use Rattle.chase_core.specs.Settling.{Settles, Notes}
+use Rattle.chase_core.specs.Inner.{SettlesMissed}
 use Rattle.chase_core.proofs.Taken.{joined_apart}
 
 -- ---- the label of a name in a view whose names ascend

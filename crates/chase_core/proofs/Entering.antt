@@ -3,8 +3,7 @@ use Rattle.std.proofs.Common.{ℕ, Some, Contains, length, min, ◌≡◌, ◌<�
 use Rattle.std.proofs.lemmas.List.Elements.{All-contains}
 use Rattle.chase_laws.specs.Near.{IsNear}
 use Rattle.chase_laws.specs.Core.{Task, IsTask, name_count, PairAt, IsNearEither, IsTouched}
-use Rattle.chase_laws.proofs.CoreEvents.{near_named}
-use Rattle.chase_laws.proofs.Lists.{All-at}
+use Rattle.chase_laws.proofs.CallerLemmas.{near_named, All-at}
 use Rattle.class_book.specs.Classes.{Classes}
 use Rattle.chase_core.specs.Setup.{Preparation, IsNearTo}
 use Rattle.chase_core.specs.Table.{Standings}

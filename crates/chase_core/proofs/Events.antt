@@ -2,9 +2,7 @@
 use Rattle.std.proofs.Common.{inl, inr, List, [], ℕ, Option, Some, None, length, slice_index, ◌≡◌, ◌<◌, ◌≤◌, get_or, replicate, sym, ◌∙◌, ap, ap₂, arith}
 use Rattle.std.specs.Prelude.{MatchOption, All}
 use Rattle.std.proofs.lemmas.Bool.{cases_lt}
-use Rattle.chase_laws.proofs.Bound.{lean_bound}
-use Rattle.chase_laws.proofs.CoreEnd.{at_most_pairs}
-use Rattle.chase_laws.proofs.Lists.{slice_get-from_Contains}
+use Rattle.chase_laws.proofs.CallerLemmas.{lean_bound, at_most_pairs, slice_get-from_Contains}
 use Rattle.chase_core.proofs.Entering.{ends_named}
 use Rattle.std.specs.List.{range_with_len}
 use Rattle.std.proofs.lemmas.List.{same_lists, get_or_default}
@@ -21,7 +19,8 @@ use Rattle.chase_core.specs.declared.ticket.Settled.{Settled}
 use Rattle.chase_core.specs.declared.ticket.Settled.TheVariants as settled
 use Rattle.chase_core.specs.Setup.{Preparation}
 use Rattle.chase_core.specs.Table.{Standings}
-use Rattle.chase_core.specs.Running.{Running, journal_room, state_in, state_of, running_with, IsKept}
+use Rattle.chase_core.specs.Running.{Running, journal_room, state_in, state_of, running_with}
+use Rattle.chase_core.specs.Inner.{IsKept}
 use Rattle.chase_core.specs.Taking.{TakesFirst, TakesHint}
 use Rattle.chase_core.specs.Settling.{entry_of, Settles}
 use Rattle.chase_core.proofs.Members.{length-range, get_or-range}

@@ -6,8 +6,7 @@ use Rattle.chase_laws.specs.declared.entry.Entry.{Entry}
 use Rattle.chase_laws.specs.Joined.{links, Joined}
 use Rattle.chase_laws.specs.Core.{Task, State, PairAt, ListsNear}
 use Rattle.chase_laws.specs.View.{same_by}
-use Rattle.chase_laws.proofs.JoinedLaws.{Within, Within-append}
-use Rattle.chase_laws.proofs.CoreEnd.{found_step}
+use Rattle.chase_laws.proofs.CallerLemmas.{Within, Within-append, found_step}
 use Rattle.class_book.specs.Classes.{Classes}
 use Rattle.chase_core.specs.declared.ticket.Ticket.{Ticket}
 use Rattle.chase_core.specs.declared.ticket.Outcome.{Outcome}

@@ -9,7 +9,7 @@ use Rattle.std.proofs.lemmas.Option.{slice_get_within, slice_get-map, slice_get_
 use Rattle.chase_laws.specs.declared.pair_state.PairState.{PairState}
 use Rattle.chase_laws.specs.declared.pair_state.PairState.TheVariants as state
 use Rattle.chase_laws.specs.Core.{recalled}
-use Rattle.chase_laws.proofs.Lists.{slice_get-map_from}
+use Rattle.chase_laws.proofs.CallerLemmas.{slice_get-map_from}
 use Rattle.chase_core.specs.Table.{Standings}
 use Rattle.chase_core.specs.Settling.{RiseInOrder}
 use Rattle.chase_core.proofs.Members.{Contains-nil}

@@ -7,8 +7,7 @@ use Rattle.std.proofs.lemmas.Option.{slice_get_within, get_or_from_slice_get}
 use Rattle.chase_laws.specs.Core.{Keeps}
 use Rattle.list_pool.specs.Pool.{list_at, joined_lists}
 use Rattle.class_book.specs.Classes.{Classes, class_of, IsClass, IsLabelled, relabelled, staying, going}
-use Rattle.class_book.proofs.Choosing.{either}
-use Rattle.class_book.proofs.Merging.{moved}
+use Rattle.class_book.proofs.CallerLemmas.{either, moved}
 use Rattle.chase_core.specs.Gathering.{tail_of, IsRelabelled}
 
 slice_get_append : {X : Type 0} (xs ys : List X) → slice_get (xs ++ ys) (length xs) ≡ slice_get ys 0

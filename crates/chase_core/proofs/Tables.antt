@@ -10,7 +10,8 @@ use Rattle.std.proofs.lemmas.Option.{slice_get_within, slice_get-get_or, same_So
 use Rattle.chase_laws.specs.declared.pair_state.PairState.{PairState}
 use Rattle.chase_laws.specs.declared.pair_state.PairState.TheVariants as state
 use Rattle.list_pool.specs.Pool.{list_at, IsFree, without}
-use Rattle.chase_core.specs.Table.{IsReadyList, AreStandings}
+use Rattle.chase_core.specs.Table.{IsReadyList}
+use Rattle.chase_core.specs.Inner.{AreStandings}
 use Rattle.chase_core.proofs.Members.{Contains-filter, filter-Contains, filter_whole, Contains-range, AllPairs-range}
 
 pub ready_or_not : (o : Option PairState) → (o ≡ Some state.Ready) ⊎ (o ≢ Some state.Ready)

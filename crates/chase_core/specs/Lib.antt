@@ -1,11 +1,14 @@
-pub mod Table
-pub mod Noted
+-- what callers of this crate read
 pub mod Setup
-pub mod Kept
-pub mod Shown
+pub mod Table
 pub mod Running
+pub mod Noted
 pub mod Taking
 pub mod Settling
+pub mod Holding
+-- inner invariants and words of the proofs
+pub mod Inner
+pub mod Kept
 pub mod Gathering
 pub mod Passing
-pub mod Holding
+pub mod Shown

@@ -5,9 +5,3 @@ use Rattle.std.specs.Prelude.{List, ℕ, length, ◌≤◌, ◌<◌, ◌^◌}
 pub record Noted : Type 0 where
   pub list : List ℕ
   pub room : ℕ
-
--- what holds of the fields: there is room
-pub record IsNoted (list : List ℕ) (room capacity : ℕ) : Type 0 where
-  pub within : length list ≤ room
-  pub reserved : room ≤ capacity
-  pub few : room < 2 ^ 32

@@ -35,11 +35,3 @@ pub record IsRunning (C : Running) : Type 0 where
   pub ready : IsReadyList C.table.states C.table.ready
   pub room : C.book.room ≡ journal_room C.setup.task
   pub within : length C.book.journal ≤ C.book.room
-
--- what a chase keeps besides the Ready list, which its table keeps: this, and room to set all pairs aside
-pub record IsKept (C : Running) (capacity : ℕ) : Type 0 where
-  pub task : IsTask C.setup.task
-  pub sound : IsSound C.setup.task (state_in C)
-  pub room : C.book.room ≡ journal_room C.setup.task
-  pub within : length C.book.journal ≤ C.book.room
-  pub aside : length C.setup.task.pairs ≤ capacity

@@ -23,18 +23,18 @@ use Rattle.chase_core.specs.Running.{Running, state_in}
 
 -- the identification of a pair by what was found
 abbrev pub entry_of : Ticket → Finding → Entry
-entry_of t f = record { a = t.a; b = t.b; key = f.key; left = f.left; right = f.right }
+entry_of ticket finding = record { a = ticket.a; b = ticket.b; key = finding.key; left = finding.left; right = finding.right }
 
 -- what a search by a view comes to: a key with two valuations at the ends that coincide up to the view, or none
 abbrev pub IsFoundBy : Task → Ticket → List (ℕ × ℕ) → Outcome → Type 0
-IsFoundBy T t view (outcome.Found f) = (Q : Shape) × (slice_get T.patterns f.key ≡ Some Q) × IsMatch T.graph Q (same_by view) t.a t.b f.left f.right
-IsFoundBy T t view outcome.Missed = ¬ (Matches T.graph T.patterns (same_by view) t.a t.b)
+IsFoundBy T ticket view (outcome.Found finding) = (Q : Shape) × (slice_get T.patterns finding.key ≡ Some Q) × IsMatch T.graph Q (same_by view) ticket.a ticket.b finding.left finding.right
+IsFoundBy T ticket view outcome.Missed = ¬ (Matches T.graph T.patterns (same_by view) ticket.a ticket.b)
 
 -- What a search may come to: what was found is a step from the present journal, or no key has two valuations at the
 -- ends that coincide up to the view.
 abbrev pub IsRightOutcome : Task → State → Ticket → List (ℕ × ℕ) → Outcome → Type 0
-IsRightOutcome T S t view (outcome.Found f) = IsStep T.graph T.patterns S.journal (entry_of t f)
-IsRightOutcome T S t view outcome.Missed = ¬ (Matches T.graph T.patterns (same_by view) t.a t.b)
+IsRightOutcome T S ticket view (outcome.Found finding) = IsStep T.graph T.patterns S.journal (entry_of ticket finding)
+IsRightOutcome T S ticket view outcome.Missed = ¬ (Matches T.graph T.patterns (same_by view) ticket.a ticket.b)
 
 -- the first name of a view whose label is not the present one, with both labels
 pub record IsFirstOvertaken (labels : List ℕ) (view : List (ℕ × ℕ)) (node seen now : ℕ) : Type 0 where
@@ -52,45 +52,34 @@ pub record RiseInOrder (from : PairState) (states : List PairState) (ready : Lis
   pub last : new.ready ≡ ready ++ woken
 
 -- the pair goes last on the Ready list, where it was not there already
-pub record GoesLast (old : Standings) (p : ℕ) (new : Standings) : Type 0 where
-  pub kept : slice_get old.states p ≡ Some state.Ready → new.ready ≡ old.ready
-  pub last : slice_get old.states p ≢ Some state.Ready → new.ready ≡ old.ready ++ p ∷ []
-
--- a pair without a step by a view, where its ends are not joined: it is Missed where each label is the present one, and
--- else Ready
-abbrev pub SettlesMissed : Classes → Standings → Standings → List (ℕ × ℕ) → ℕ → Settled → Type 0
-SettlesMissed book old new view p settled.Missed =
-    ((k n l : ℕ) → slice_get view k ≡ Some (n, l) → l ≡ slice_index book.labels n)
-    × (new.states ≡ slice_set old.states p state.Missed) × (new.ready ≡ without old.ready p)
-SettlesMissed book old new view p (settled.Reopened node seen now) =
-    IsFirstOvertaken book.labels view node seen now × (new.states ≡ slice_set old.states p state.Ready) × GoesLast old p new
-SettlesMissed book old new view p settled.Already = ⊥
-SettlesMissed book old new view p (settled.Entered place) = ⊥
+pub record GoesLast (old : Standings) (pair : ℕ) (new : Standings) : Type 0 where
+  pub kept : slice_get old.states pair ≡ Some state.Ready → new.ready ≡ old.ready
+  pub last : slice_get old.states pair ≢ Some state.Ready → new.ready ≡ old.ready ++ pair ∷ []
 
 -- What each answer says. The four cannot come for one and the same: the first comes where the ends are joined, the
 -- others where they are not, and of those the second where something was found, the third and the fourth where nothing
 -- was, by whether the view's labels are the present ones.
 abbrev pub Settles : Running → Ticket → List (ℕ × ℕ) → Outcome → Settled → Running → Type 0
-Settles old t view found settled.Already new =
-    Happens old.setup.task (state_in old) (AlreadyJoined t.pair) (state_in new)
-    × (new.book ≡ old.book) × (new.table.ready ≡ without old.table.ready t.pair)
-Settles old t view (outcome.Found f) (settled.Entered place) new =
-    Happens old.setup.task (state_in old) (Enter t.pair (entry_of t f)) (state_in new) × (place ≡ length old.book.journal)
-Settles old t view outcome.Missed (settled.Entered place) new = ⊥
-Settles old t view (outcome.Found f) settled.Missed new = ⊥
-Settles old t view outcome.Missed settled.Missed new =
-    Happens old.setup.task (state_in old) (Miss t.pair view) (state_in new)
-    × (new.book ≡ old.book) × (new.table.ready ≡ without old.table.ready t.pair)
-Settles old t view (outcome.Found f) (settled.Reopened node seen now) new = ⊥
-Settles old t view outcome.Missed (settled.Reopened node seen now) new =
-    Happens old.setup.task (state_in old) (Reopen t.pair view) (state_in new)
+Settles old ticket view found settled.Already new =
+    Happens old.setup.task (state_in old) (AlreadyJoined ticket.pair) (state_in new)
+    × (new.book ≡ old.book) × (new.table.ready ≡ without old.table.ready ticket.pair)
+Settles old ticket view (outcome.Found finding) (settled.Entered place) new =
+    Happens old.setup.task (state_in old) (Enter ticket.pair (entry_of ticket finding)) (state_in new) × (place ≡ length old.book.journal)
+Settles old ticket view outcome.Missed (settled.Entered place) new = ⊥
+Settles old ticket view (outcome.Found finding) settled.Missed new = ⊥
+Settles old ticket view outcome.Missed settled.Missed new =
+    Happens old.setup.task (state_in old) (Miss ticket.pair view) (state_in new)
+    × (new.book ≡ old.book) × (new.table.ready ≡ without old.table.ready ticket.pair)
+Settles old ticket view (outcome.Found finding) (settled.Reopened node seen now) new = ⊥
+Settles old ticket view outcome.Missed (settled.Reopened node seen now) new =
+    Happens old.setup.task (state_in old) (Reopen ticket.pair view) (state_in new)
     × IsFirstOvertaken old.book.labels view node seen now
-    × (new.book ≡ old.book) × GoesLast old.table t.pair new.table
+    × (new.book ≡ old.book) × GoesLast old.table ticket.pair new.table
 
 -- the first of the pairs that an entry makes Ready, as many as there is room for, and nothing after another answer
 abbrev pub Notes : Running → ℕ → Settled → Running → ℕ → List ℕ → Type 0
-Notes old p (settled.Entered place) new room list =
-    (woken : List ℕ) × RiseInOrder state.Missed old.table.states (without old.table.ready p) new.table woken × (list ≡ take room woken)
-Notes old p settled.Already new room list = list ≡ []
-Notes old p settled.Missed new room list = list ≡ []
-Notes old p (settled.Reopened node seen now) new room list = list ≡ []
+Notes old pair (settled.Entered place) new room list =
+    (woken : List ℕ) × RiseInOrder state.Missed old.table.states (without old.table.ready pair) new.table woken × (list ≡ take room woken)
+Notes old pair settled.Already new room list = list ≡ []
+Notes old pair settled.Missed new room list = list ≡ []
+Notes old pair (settled.Reopened node seen now) new room list = list ≡ []

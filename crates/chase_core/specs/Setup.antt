@@ -36,20 +36,3 @@ pub record IsWidest (S : Preparation) : Type 0 where
 pub record IsNearTo (T : Task) (near : List (List ℕ)) : Type 0 where
   pub one_each : length near ≡ name_count T
   pub exact : (e n : ℕ) → e < name_count T → Contains (list_at near e) n ↔ IsNear T.graph T.patterns e n
-
--- the lists are the pairs of each name, by their numbers, ascending
-pub record AreEnds (T : Task) (lists : List (List ℕ)) : Type 0 where
-  pub one_each : length lists ≡ name_count T
-  pub ascending : (e : ℕ) → e < name_count T → IsStrictlyIncreasing (list_at lists e)
-  pub exact : (e p : ℕ) → e < name_count T → Contains (list_at lists e) p ↔ HasEnd T.pairs p e
-
--- what each setup keeps
-pub record IsPreparation (S : Preparation) (ends : List (List ℕ)) : Type 0 where
-  pub task : IsTask S.task
-  pub ascend : AreAscending S.task.pairs
-  pub few_patterns : length S.task.patterns < 2 ^ 32
-  pub few_pairs : length S.task.pairs < 2 ^ 32
-  pub plans : ArePlans S.task.patterns S.plans
-  pub near : IsNearTo S.task S.near.near
-  pub widest : IsWidest S
-  pub by_end : AreEnds S.task ends

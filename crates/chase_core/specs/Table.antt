@@ -13,9 +13,3 @@ pub record Standings : Type 0 where
 pub record IsReadyList (states : List PairState) (ready : List ℕ) : Type 0 where
   pub exact : (p : ℕ) → Contains ready p ↔ (slice_get states p ≡ Some state.Ready)
   pub once : AllPairs (λ m n. m ≢ n) ready
-
--- what a table keeps: a pool with one list, which is the Ready list, and with a cell for each pair
-pub record AreStandings (states : List PairState) (lists : List (List ℕ)) (cells : ℕ) : Type 0 where
-  pub one_list : length lists ≡ 1
-  pub one_cell_each : cells ≡ length states
-  pub ready : IsReadyList states (list_at lists 0)

@@ -1,4 +1,4 @@
-//! A chase that runs.
+//! `Chase`: which names are the same so far, where each pair stands, and the calls that go on from there.
 
 ghost use Rattle.std.specs.Prelude.{◌≡◌, ◌≢◌, ◌<◌, ◌≤◌, ◌++◌, ◌↔◌, List, ℕ, IfOk, IfSome, IfNone, OnSome, MatchOption, Some, length, slice_get};
 ghost use Rattle.std.specs.Option.{ForSome};
@@ -42,7 +42,8 @@ pub struct Chase<'a> {
 
 impl<'a> Model for Chase<'a> {
     ghost use Rattle.std.specs.Prelude.{vec_capacity};
-    ghost use Rattle.chase_core.specs.Running.{Running, running_with, IsKept};
+    ghost use Rattle.chase_core.specs.Running.{Running, running_with};
+    ghost use Rattle.chase_core.specs.Inner.{IsKept};
 
     ghost Value = { Running };
 
@@ -186,14 +187,6 @@ impl<'a> Chase<'a> {
         self.holds();
     }
 
-    /// What holds of every chase.
-    fn holds(&self)
-        ensures running { IsRunning self.now }
-    {
-        self.table.listed();
-        let _ = &self.book;
-    }
-
     /// The labels and the journal. It takes no memory.
     pub fn finish(self) -> Matched
         ensures labels { result.labels.items ≡ self.entry.book.labels }
@@ -204,5 +197,13 @@ impl<'a> Chase<'a> {
         table.listed();
         let (labels, journal) = book.into_parts();
         Matched { labels, journal }
+    }
+
+    /// Says for proofs what holds of every chase. It does nothing.
+    fn holds(&self)
+        ensures running { IsRunning self.now }
+    {
+        self.table.listed();
+        let _ = &self.book;
     }
 }

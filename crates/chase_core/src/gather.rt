@@ -1,4 +1,4 @@
-//! The pairs that look at relabelled names, set aside.
+//! Sets the pairs aside that look at relabelled names, until `wake` makes them Ready.
 
 ghost use Rattle.std.specs.Prelude.{◌≡◌, ◌<◌, ℕ, Some, Contains, length, vec_capacity};
 ghost use Rattle.chase_laws.specs.Core.{name_count};
@@ -22,6 +22,7 @@ fn gather_pairs(setup: &Setup, table: &mut PairTable, end: u32, aside: &mut Vec<
 {
     for pair in setup.pairs_of(end) {
         if let PairState::Missed = table.state(*pair) {
+            // Flying says here that the pair is set aside already.
             table.mark(*pair, PairState::Flying);
             aside.push_reserved(*pair);
         }

@@ -8,7 +8,8 @@ ghost use Rattle.chase_core.specs.declared.ticket.Outcome.{Outcome};
 ghost use Rattle.chase_core.specs.Holding.{IsHeld};
 ghost use Rattle.chase_core.specs.Settling.{IsFoundBy, IsRightOutcome};
 
-/// However many others are settled meanwhile, what a search by a ticket's view comes to may be settled.
+/// However many others are settled meanwhile, what a search by a ticket's view comes to may be settled. It does nothing:
+/// its contract is for proofs.
 pub fn law_held()
     ensures stays { (T : Task) (seen more : List Entry) (t : Ticket) (view : List (ℕ × ℕ)) → IsHeld T seen t view → IsHeld T (seen ++ more) t view }
     ensures right { (T : Task) (S : State) (t : Ticket) (view : List (ℕ × ℕ)) (found : Outcome) → IsHeld T S.journal t view →

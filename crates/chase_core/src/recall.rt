@@ -1,4 +1,4 @@
-//! Pairs that are handed out, given back.
+//! Gives the pairs that are handed out back.
 
 ghost use Rattle.std.specs.Prelude.{◌≡◌, ◌≢◌, List, ℕ, Some, slice_get, length, map};
 ghost use Rattle.chase_laws.specs.declared.pair_state.PairState.TheVariants as state;
@@ -9,7 +9,8 @@ use crate::Setup;
 use crate::table::PairTable;
 use chase_laws::PairState;
 
-/// Makes each Flying pair Ready, in ascending order at the end of the list.
+/// Makes each Flying pair Ready, in ascending order at the end of the list. It takes a chase's fields and not the chase:
+/// all pairs together are one event, and between two of them what every chase keeps has not been shown.
 pub fn recall_parts(setup: &Setup, table: &mut PairTable)
     requires { length table.old.states ≡ length setup.now.task.pairs }
     ensures states { table.new.states ≡ map recalled table.old.states }

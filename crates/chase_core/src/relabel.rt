@@ -1,4 +1,4 @@
-//! An entry, and the names that it gives another label.
+//! Makes an entry, and says which names it gives another label.
 
 ghost use Rattle.std.specs.Prelude.{◌≡◌, ◌<◌, ◌++◌, ◌∷◌, [], ◌⊎◌, length};
 ghost use Rattle.chase_laws.specs.Joined.{Joined, LabelsJoin};
@@ -32,6 +32,8 @@ pub fn enter_entry(book: &mut Book, entry: Entry) -> Relabelled
     ensures relabelled { IsRelabelled book.old book.new result.start result.count }
 {
     let Entry { a, b, .. } = entry;
+    // The first member of a class and its size are asked before the entry: afterwards the relabelled class is the last part
+    // of the other, and it still begins with that member.
     let before = book.label(a);
     let first = book.first_member(a);
     let first_count = book.size(a);

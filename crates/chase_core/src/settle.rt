@@ -1,4 +1,4 @@
-//! What becomes of a pair that was searched.
+//! Settles a pair that was searched: enters what was found, and keeps that nothing was found while that is still known.
 
 ghost use Rattle.std.specs.Prelude.{◌≡◌, ◌<◌, ◌≤◌, [], List, ℕ, IfSome, IfNone, Some, length, slice_get, slice_index, take, vec_capacity};
 ghost use Rattle.chase_laws.specs.declared.pair_state.PairState.TheVariants as state;
@@ -9,7 +9,8 @@ ghost use Rattle.chase_laws.specs.Core.Event.{Enter};
 ghost use Rattle.paired_search.specs.Held.{Ascends};
 ghost use Rattle.list_pool.specs.Pool.{without};
 ghost use Rattle.chase_core.specs.Running.{state_of, running_with, journal_room};
-ghost use Rattle.chase_core.specs.Settling.{IsRightOutcome, IsFirstOvertaken, RiseInOrder, Settles, SettlesMissed, Notes};
+ghost use Rattle.chase_core.specs.Settling.{IsRightOutcome, IsFirstOvertaken, RiseInOrder, Settles, Notes};
+ghost use Rattle.chase_core.specs.Inner.{SettlesMissed};
 
 use crate::gather::gather_tail;
 use crate::relabel::enter_entry;
@@ -30,6 +31,7 @@ fn overtaken(setup: &Setup, book: &Book, ticket: Ticket, view: &View) -> Option<
     ensures ascends { Ascends view.now.pairs }
 {
     setup.prepared();
+    // The ticket only says in the contract whose view it is.
     let _ = ticket;
     for place in 0..view.len() {
         let (node, seen) = view.at(place);
@@ -71,6 +73,9 @@ pub fn enter_found(
     setup.prepared();
     table.mark(pair, PairState::Joined);
     let entered = enter_entry(book, entry);
+    // Two passes: the pairs are gathered as they look at the relabelled names, and made Ready afterwards, for they come
+    // in the names' order and have to wait in their own. A pair that is set aside is no longer Missed, so it is gathered
+    // once however many of the names it looks at.
     aside.clear();
     gather_tail(setup, book, table, entered.start, entered.count, aside);
     aside.sort_unstable();
@@ -104,7 +109,8 @@ fn settle_missed(
     }
 }
 
-/// Settles a pair that was searched.
+/// Settles a pair that was searched. It takes a chase's fields and not the chase: the pair's mark, the entry and the pairs
+/// that it wakes are one event, and within it what every chase keeps does not hold.
 pub fn settle_parts(
     setup: &Setup,
     book: &mut Book,

@@ -1,4 +1,4 @@
-//! What a chase works on.
+//! `Setup`: what a chase works on, and does not change.
 
 ghost use Rattle.std.specs.Prelude.{◌≡◌, ◌<◌, ◌+◌, ◌^◌, ◌↔◌, ℕ, All, Contains, IfOk, length};
 ghost use Rattle.std.specs.List.Sorted.{IsStrictlyIncreasing};
@@ -33,7 +33,8 @@ pub struct Setup {
 }
 
 impl Model for Setup {
-    ghost use Rattle.chase_core.specs.Setup.{Preparation, IsPreparation};
+    ghost use Rattle.chase_core.specs.Setup.{Preparation};
+    ghost use Rattle.chase_core.specs.Inner.{IsPreparation};
 
     ghost Value = { Preparation };
 
@@ -89,16 +90,6 @@ impl Setup {
             ends,
             widest,
         })
-    }
-
-    /// What holds of every setup.
-    pub(crate) fn prepared(&self)
-        ensures task { IsTask self.now.task }
-        ensures near { IsNearTo self.now.task self.now.near.near }
-        ensures plans { ArePlans self.now.task.patterns self.now.plans }
-        ensures few_pairs { length self.now.task.pairs < 2 ^ 32 }
-    {
-        let _ = &self.pairs;
     }
 
     /// The graph.
@@ -160,5 +151,15 @@ impl Setup {
         ensures exact { IsWidest self.now }
     {
         self.widest
+    }
+
+    /// Says for proofs what holds of every setup. It does nothing.
+    pub(crate) fn prepared(&self)
+        ensures task { IsTask self.now.task }
+        ensures near { IsNearTo self.now.task self.now.near.near }
+        ensures plans { ArePlans self.now.task.patterns self.now.plans }
+        ensures few_pairs { length self.now.task.pairs < 2 ^ 32 }
+    {
+        let _ = &self.pairs;
     }
 }

@@ -1,4 +1,4 @@
-//! Two lists of names, shown with their labels.
+//! Shows the names of two lists with their present labels.
 
 ghost use Rattle.std.specs.Prelude.{◌≡◌, ◌<◌, ◌≤◌, ◌+◌, ◌⊎◌, All, length, min};
 ghost use Rattle.std.specs.List.Sorted.{IsStrictlyIncreasing};

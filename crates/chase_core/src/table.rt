@@ -1,10 +1,11 @@
-//! Where the pairs stand, and the Ready list.
+//! `PairTable`: where each pair stands, and the list of those that are Ready.
 
 ghost use Rattle.std.specs.Prelude.{◌≡◌, ◌≢◌, ◌<◌, ◌++◌, ◌∷◌, [], IfOk, Some, length, replicate, slice_get, slice_set};
 ghost use Rattle.std.specs.List.{range_with_len};
 ghost use Rattle.chase_laws.specs.declared.pair_state.PairState.TheVariants as state;
 ghost use Rattle.list_pool.specs.Pool.{list_at, without};
-ghost use Rattle.chase_core.specs.Table.{IsReadyList, AreStandings};
+ghost use Rattle.chase_core.specs.Table.{IsReadyList};
+ghost use Rattle.chase_core.specs.Inner.{AreStandings};
 
 use chase_laws::PairState;
 use gk_base::NoMemory;
@@ -22,7 +23,8 @@ pub struct PairTable {
 
 impl Model for PairTable {
     ghost use Rattle.list_pool.specs.Pool.{list_at};
-    ghost use Rattle.chase_core.specs.Table.{Standings, AreStandings};
+    ghost use Rattle.chase_core.specs.Table.{Standings};
+    ghost use Rattle.chase_core.specs.Inner.{AreStandings};
 
     ghost Value = { Standings };
 
@@ -55,7 +57,8 @@ fn all_waiting(alloc: Global, count: u32) -> Result<Pool, NoMemory>
     Ok(waiting)
 }
 
-/// Takes a pair off the list, if it is there, and writes where it stands.
+/// Takes a pair off the list, if it is there, and writes where it stands. It takes a table's fields and not the table:
+/// between its two writes the list and the states disagree, and what a table keeps does not hold.
 fn mark_parts(states: &mut Vec<PairState>, waiting: &mut Pool, pair: u32, to: PairState)
     requires table { AreStandings states.old.items waiting.old.lists waiting.old.cells }
     requires pair { pair < length states.old.items }
@@ -70,7 +73,8 @@ fn mark_parts(states: &mut Vec<PairState>, waiting: &mut Pool, pair: u32, to: Pa
     states[pair as usize] = to;
 }
 
-/// Puts a pair on the list, if it is not there, and makes it Ready.
+/// Puts a pair on the list, if it is not there, and makes it Ready. It takes a table's fields as `mark_parts` does, and for
+/// the same reason.
 fn make_ready_parts(states: &mut Vec<PairState>, waiting: &mut Pool, pair: u32)
     requires table { AreStandings states.old.items waiting.old.lists waiting.old.cells }
     requires pair { pair < length states.old.items }
@@ -108,13 +112,6 @@ impl PairTable {
         self.states[pair as usize]
     }
 
-    /// What holds of every table.
-    pub fn listed(&self)
-        ensures { IsReadyList self.now.states self.now.ready }
-    {
-        let _ = &self.waiting;
-    }
-
     /// The first of the Ready pairs, and none exactly where no pair is Ready.
     pub fn first(&self) -> Option<u32>
         ensures first { result ≡ slice_get self.now.ready 0 }
@@ -141,5 +138,12 @@ impl PairTable {
         ensures last { slice_get self.old.states pair ≢ Some state.Ready → self.new.ready ≡ self.old.ready ++ pair ∷ [] }
     {
         make_ready_parts(&mut self.states, &mut self.waiting, pair);
+    }
+
+    /// Says for proofs what holds of every table. It does nothing.
+    pub fn listed(&self)
+        ensures { IsReadyList self.now.states self.now.ready }
+    {
+        let _ = &self.waiting;
     }
 }

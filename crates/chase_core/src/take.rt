@@ -1,4 +1,4 @@
-//! Which pair is handed out.
+//! Finds the pair that is handed out, and shows what is near to its ends.
 
 ghost use Rattle.std.specs.Prelude.{◌≡◌, ◌<◌, ◌≤◌, IfSome, IfNone, OnSome, MatchOption, Some, length, slice_set};
 ghost use Rattle.std.specs.Option.{ForSome};
@@ -92,7 +92,9 @@ pub fn hand_out(
     ticket
 }
 
-/// Takes a pair: the hinted one, or without a hint the first of the Ready list.
+/// Takes a pair: the hinted one, or without a hint the first of the Ready list. It takes a chase's fields and not the
+/// chase: the pairs that are passed over and the one that is handed out are one event, and within it what every chase
+/// keeps has not been shown.
 pub fn take_parts(
     setup: &Setup,
     book: &Book,

@@ -1,4 +1,4 @@
-//! What passes between a chase and whoever searches for it.
+//! What passes between a chase and whoever searches for it: tickets, outcomes and answers.
 
 use chase_laws::Entry;
 use paired_search::Finding;

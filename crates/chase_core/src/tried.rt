@@ -1,4 +1,4 @@
-//! What a search for a pair comes to.
+//! Searches for a pair that was handed out.
 
 ghost use Rattle.chase_core.specs.Settling.{IsFoundBy};
 

@@ -1,4 +1,4 @@
-//! Pairs that were set aside, made Ready.
+//! Makes the pairs Ready that were set aside.
 
 ghost use Rattle.std.specs.Prelude.{◌≡◌, ◌≢◌, ◌++◌, [], Some, All, AllPairs, slice_get, take};
 ghost use Rattle.chase_laws.specs.declared.pair_state.PairState.TheVariants as state;

@@ -1,4 +1,4 @@
-//! The pairs that an entry woke.
+//! `Woken`: the first of the pairs that an entry made Ready again.
 
 ghost use Rattle.std.specs.Prelude.{◌≡◌, ◌≤◌, ◌++◌, ◌∷◌, [], IfOk, length, take};
 
@@ -16,7 +16,8 @@ pub struct Woken {
 
 impl Model for Woken {
     ghost use Rattle.std.specs.Prelude.{vec_capacity};
-    ghost use Rattle.chase_core.specs.Noted.{Noted, IsNoted};
+    ghost use Rattle.chase_core.specs.Noted.{Noted};
+    ghost use Rattle.chase_core.specs.Inner.{IsNoted};
 
     ghost Value = { Noted };
 

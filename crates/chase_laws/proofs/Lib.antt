@@ -1,15 +1,16 @@
-pub mod JoinedLaws
-pub mod Patterns
-pub mod Walks
-pub mod Lists
-pub mod Derivations
-pub mod ChaseLaws
-pub mod NearLaws
-pub mod PairLaws
-pub mod Bound
-pub mod Turned
-pub mod SameRows
-pub mod EntityLaws
-pub mod SmallCases
-pub mod CoreEvents
-pub mod CoreEnd
+mod Bound
+pub mod CallerLemmas
+mod ChaseLaws
+mod CoreEnd
+mod CoreEvents
+mod Derivations
+mod EntityLaws
+mod JoinedLaws
+mod Lists
+mod NearLaws
+mod PairLaws
+mod Patterns
+mod SameRows
+mod SmallCases
+mod Turned
+mod Walks

@@ -9,7 +9,7 @@ use Rattle.chase_laws.specs.Valuation.{FitsSlot, Designates, AgreeAt, IsMatch}
 use Rattle.chase_laws.specs.Chase.{IsAble}
 use Rattle.chase_laws.specs.Joined.{joined}
 use Rattle.chase_laws.specs.Candidate.{Shares, IsCandidateUnder, IsCandidate}
-use Rattle.chase_laws.specs.Pairing.{GoTogether, PairedHere, ArePaired}
+use Rattle.chase_laws.specs.Pairing.{GoTogether, PairedHere, ArePaired, ArePairedBy}
 
 together : (G : NumberedGraph) (same : ℕ → ℕ → Bool) (s : ℕ) (slot : Slot) (u w : ℕ) → FitsSlot G slot u → FitsSlot G slot w → AgreeAt G same s slot u w → GoTogether G slot u w
 together G same s (Entity t) u w h k agree = tt
@@ -113,3 +113,8 @@ able_paired G K a b h =
           (subst (ArePaired G m.pattern depth 0 (slice_index m.left 0)) x.at_b
           (witness_paired G m.pattern (joined h.1.0) a b m.left m.right x depth 0))),
     )
+
+pub able_paired_by : (G : NumberedGraph) (K : List Shape) (a b : ℕ) → IsAble G K a b → (depth : ℕ) → ArePairedBy G K depth a b
+able_paired_by G K a b h depth =
+    let p = able_paired G K a b h in
+    record { key = p.0; pattern = p.1; found = p.2; left = p.3; right = p.4; paired = p.5 depth }

@@ -1,9 +1,8 @@
+-- what callers of this crate read: patterns and graphs
 pub mod Shape
-pub mod Padded
-pub mod Joined
 pub mod Graph
-pub mod SameRows
 pub mod Valuation
+pub mod Joined
 pub mod Chase
 pub mod Candidate
 pub mod Pairing
@@ -11,3 +10,6 @@ pub mod Near
 pub mod View
 pub mod Report
 pub mod Core
+pub mod SameRows
+-- how lists of numbers stand in memory
+pub mod Padded

@@ -1,4 +1,4 @@
-//! One identification.
+//! One identification of a chase: which key makes which two names the same, and by which valuations.
 
 use crate::Places;
 

@@ -12,7 +12,7 @@ ghost use Rattle.chase_laws.specs.Valuation.{IsValuation, Designates, Matches};
 ghost use Rattle.chase_laws.specs.Joined.{joined, joined_by, Joined};
 ghost use Rattle.chase_laws.specs.Chase.{IsStep, IsDerivation, IsLean, AreSame, IsClosed, IsAble};
 ghost use Rattle.chase_laws.specs.Candidate.{IsCandidate};
-ghost use Rattle.chase_laws.specs.Pairing.{ArePaired};
+ghost use Rattle.chase_laws.specs.Pairing.{ArePaired, ArePairedBy};
 ghost use Rattle.chase_laws.specs.Near.{IsNear};
 ghost use Rattle.chase_laws.specs.View.{label_in, same_by};
 
@@ -53,9 +53,10 @@ pub fn law_able()
     ensures { (G : NumberedGraph) (K : List Shape) (a b : ℕ) → IsAble G K a b → IsCandidate G K a b }
 {}
 
-/// Every able pair is paired to every depth by the same key.
+/// Some key pairs every able pair, to whatever depth, and one key does so to all depths.
 pub fn law_paired()
-    ensures { (G : NumberedGraph) (K : List Shape) (a b : ℕ) → IsAble G K a b →
+    ensures paired { (G : NumberedGraph) (K : List Shape) (a b : ℕ) → IsAble G K a b → (depth : ℕ) → ArePairedBy G K depth a b }
+    ensures one_key { (G : NumberedGraph) (K : List Shape) (a b : ℕ) → IsAble G K a b →
         (key : ℕ) × (Q : Shape) × (slice_get K key ≡ Some Q) × Designates G Q a × Designates G Q b
         × ((depth : ℕ) → ArePaired G Q depth 0 a b) }
 {}

@@ -5,9 +5,9 @@ use Rattle.std.proofs.lemmas.List.{get_or-replicate, length-replicate}
 use Rattle.std.proofs.lemmas.List.Sums.{sum_by-cons}
 use Rattle.list_pool.specs.Counts.{times}
 use Rattle.list_pool.specs.Pool.{list_at}
-use Rattle.list_pool.proofs.Times.{times_nil, times_here, times_there}
-use Rattle.list_pool.proofs.Plain.{times_from_Contains}
-use Rattle.class_book.specs.Classes.{IsRoster, size_of}
+use Rattle.list_pool.proofs.CallerLemmas.{times_nil, times_here, times_there, times_from_Contains}
+use Rattle.class_book.specs.Classes.{size_of}
+use Rattle.class_book.specs.Roster.{IsRoster}
 use Rattle.class_book.proofs.Merging.{bit}
 
 pub in_one : (x c : ℕ) → Contains (x ∷ []) c → x ≡ c

@@ -1,9 +1,10 @@
 -- Which label stays, and what that costs.
-use Rattle.std.proofs.Common.{List, ℕ, Bool, true, false, cond, length, get_or, ◌≡◌, ◌≢◌, ◌<◌, ◌≤◌, ◌*◌, ◌==◌, ◌||◌, ◌&&◌, ◌⊎◌, inl, inr, ap, sym, ◌∙◌, arith, nat_lt}
+use Rattle.std.proofs.Common.{List, ℕ, Bool, true, false, cond, if◌then◌else◌, refl, All, length, get_or, ◌≡◌, ◌≢◌, ◌<◌, ◌≤◌, ◌*◌, ◌==◌, ◌||◌, ◌&&◌, ◌⊎◌, inl, inr, ap, sym, ◌∙◌, arith, nat_lt}
 use Rattle.std.proofs.lemmas.Bool.{cases_Bool}
 use Rattle.std.proofs.lemmas.Bool.Decides.{nat_tests}
-use Rattle.list_pool.specs.Pool.{joined_lists}
-use Rattle.class_book.specs.Classes.{IsRoster, relabelled, size_of, first_stays, staying, going, changed_count}
+use Rattle.std.proofs.lemmas.List.Elements.{All-get_or}
+use Rattle.class_book.specs.Classes.{relabelled, size_of, first_stays, staying, going, changed_count}
+use Rattle.class_book.specs.Roster.{IsRoster}
 use Rattle.class_book.proofs.Merging.{changed_count_is, size_to}
 
 -- the choice by the sizes that are kept is the choice by the labels
@@ -54,24 +55,31 @@ chosen labels sizes lent members x y f g b r x_in y_in e l p q =
     ap (λ w. nat_lt (get_or sizes w 0) (get_or sizes x 0) || (get_or sizes x 0 == get_or sizes w 0 && nat_lt x w)) q ∙
     choice_is labels sizes members x y r x_in y_in
 
-pub first_goes_on : (labels new : List ℕ) (x y f g : ℕ) → first_stays labels x y ≡ true → f ≡ x → g ≡ y → new ≡ relabelled labels g f → new ≡ relabelled labels (going labels x y) (staying labels x y)
-first_goes_on labels new x y f g e p q h =
-    let k = if_first labels x y e in
-    h ∙ ap (λ v. relabelled labels v f) (q ∙ sym k.1) ∙ ap (relabelled labels (going labels x y)) (p ∙ sym k.0)
+-- what a choice gives
+pub choice_gives : (labels : List ℕ) (x y f g : ℕ) (b : Bool) (r : ℕ × ℕ) → b ≡ first_stays labels x y → f ≡ x → g ≡ y → r ≡ (if b then (f, g) else (g, f)) →
+    (r.0 ≡ staying labels x y) × (r.1 ≡ going labels x y)
+choice_gives labels x y f g true r h p q e =
+    let k = if_first labels x y (sym h) in
+    (ap (λ (s : ℕ × ℕ). s.0) e ∙ p ∙ sym k.0, ap (λ (s : ℕ × ℕ). s.1) e ∙ q ∙ sym k.1)
+choice_gives labels x y f g false r h p q e =
+    let k = if_second labels x y (sym h) in
+    (ap (λ (s : ℕ × ℕ). s.0) e ∙ q ∙ sym k.0, ap (λ (s : ℕ × ℕ). s.1) e ∙ p ∙ sym k.1)
 
-pub second_goes_on : (labels new : List ℕ) (x y f g : ℕ) → first_stays labels x y ≡ false → f ≡ x → g ≡ y → new ≡ relabelled labels f g → new ≡ relabelled labels (going labels x y) (staying labels x y)
-second_goes_on labels new x y f g e p q h =
-    let k = if_second labels x y e in
-    h ∙ ap (λ v. relabelled labels v g) (p ∙ sym k.1) ∙ ap (relabelled labels (going labels x y)) (q ∙ sym k.0)
+-- the labels that the code chooses, f and g being those that it reads for the nodes a and b
+pub picked : (labels sizes lent : List ℕ) (members : List (List ℕ)) (a b f g : ℕ) (r : ℕ × ℕ) → IsRoster labels sizes members → All (λ l. l < length labels) labels →
+    a < length labels → b < length labels → lent ≡ sizes → f ≡ get_or labels a 0 → g ≡ get_or labels b 0 →
+    r ≡ (if nat_lt (get_or lent g 0) (get_or lent f 0) || (get_or lent f 0 == get_or lent g 0 && nat_lt f g) then (f, g) else (g, f)) →
+    (r.0 ≡ staying labels (get_or labels a 0) (get_or labels b 0)) × (r.1 ≡ going labels (get_or labels a 0) (get_or labels b 0))
+picked labels sizes lent members a b f g r roster in_range a_in b_in l p q e =
+    let x = get_or labels a 0 in
+    let y = get_or labels b 0 in
+    let x_in = All-get_or (λ l. l < length labels) labels a 0 a_in in_range in
+    let y_in = All-get_or (λ l. l < length labels) labels b 0 b_in in_range in
+    let choice = chosen labels sizes lent members x y f g _ roster x_in y_in refl l p q in
+    choice_gives labels x y f g _ r choice p q e
 
-pub first_takes_over : (labels : List ℕ) (members new : List (List ℕ)) (x y f g : ℕ) → first_stays labels x y ≡ true → f ≡ x → g ≡ y → new ≡ joined_lists members f g →
-    new ≡ joined_lists members (staying labels x y) (going labels x y)
-first_takes_over labels members new x y f g e p q h =
-    let k = if_first labels x y e in
-    h ∙ ap (λ v. joined_lists members v g) (p ∙ sym k.0) ∙ ap (joined_lists members (staying labels x y)) (q ∙ sym k.1)
+pub staying_in_range : (labels : List ℕ) (x y : ℕ) → x < length labels → y < length labels → staying labels x y < length labels
+staying_in_range labels x y x_in y_in = elim (either labels x y) [ inl h ↦ rw h.0 x_in | inr h ↦ rw h.0 y_in ]
 
-pub second_takes_over : (labels : List ℕ) (members new : List (List ℕ)) (x y f g : ℕ) → first_stays labels x y ≡ false → f ≡ x → g ≡ y → new ≡ joined_lists members g f →
-    new ≡ joined_lists members (staying labels x y) (going labels x y)
-second_takes_over labels members new x y f g e p q h =
-    let k = if_second labels x y e in
-    h ∙ ap (λ v. joined_lists members v f) (q ∙ sym k.0) ∙ ap (joined_lists members (staying labels x y)) (p ∙ sym k.1)
+pub going_in_range : (labels : List ℕ) (x y : ℕ) → x < length labels → y < length labels → going labels x y < length labels
+going_in_range labels x y x_in y_in = elim (either labels x y) [ inl h ↦ rw h.1 y_in | inr h ↦ rw h.1 x_in ]

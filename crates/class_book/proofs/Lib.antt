@@ -1,6 +1,7 @@
-pub mod Alone
-pub mod Choosing
-pub mod Entered
-pub mod Joins
-pub mod Members
-pub mod Merging
+mod Alone
+pub mod CallerLemmas
+mod Choosing
+mod Entered
+mod Joins
+mod Members
+mod Merging

@@ -6,9 +6,9 @@ use Rattle.std.proofs.lemmas.List.Elements.{All-get_or}
 use Rattle.chase_laws.specs.declared.entry.Entry.{Entry}
 use Rattle.list_pool.specs.Counts.{times}
 use Rattle.list_pool.specs.Pool.{list_at}
-use Rattle.list_pool.proofs.Times.{times_nil}
-use Rattle.list_pool.proofs.Plain.{times_from_Contains, Contains_from_times, one_place}
-use Rattle.class_book.specs.Classes.{Classes, class_of, IsLabelled, IsRoster, IsClass}
+use Rattle.list_pool.proofs.CallerLemmas.{times_nil, times_from_Contains, Contains_from_times, one_place}
+use Rattle.class_book.specs.Classes.{Classes, class_of, IsLabelled, IsClass}
+use Rattle.class_book.specs.Roster.{IsRoster}
 use Rattle.class_book.proofs.Merging.{bit, members_in_range}
 
 module _ (labels sizes : List ℕ) (members : List (List ℕ)) (r : IsRoster labels sizes members) where

@@ -4,11 +4,11 @@ use Rattle.std.proofs.lemmas.Bool.{cases_eq, cases_lt}
 use Rattle.std.proofs.lemmas.List.{get_or-set_same, get_or-set_other, get_or-map, length-set, length-map, length-append, ext_get_or, take_more, get_or_default}
 use Rattle.std.proofs.lemmas.List.Sums.{sum_by-cons, count_by-le-length}
 use Rattle.std.proofs.lemmas.List.Elements.{All-from_get_or}
-use Rattle.list_pool.proofs.Plain.{times_from_Contains}
+use Rattle.list_pool.proofs.CallerLemmas.{times_from_Contains, times-append, times_nil, times_here, times_there}
 use Rattle.list_pool.specs.Counts.{times}
 use Rattle.list_pool.specs.Pool.{list_at}
-use Rattle.list_pool.proofs.Times.{times-append, times_nil, times_here, times_there}
-use Rattle.class_book.specs.Classes.{IsRoster, relabelled, size_of, changed_count}
+use Rattle.class_book.specs.Classes.{relabelled, size_of, changed_count}
+use Rattle.class_book.specs.Roster.{IsRoster}
 
 abbrev pub bit : Bool → ℕ
 bit b = cond b 1 0

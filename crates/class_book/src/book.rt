@@ -1,13 +1,15 @@
-//! A book of classes.
+//! A book: the labels, members and sizes of classes, the journal, and the call that enters an identification.
 
 ghost use Rattle.std.specs.Prelude.{◌≡◌, ◌<◌, ◌≤◌, ◌↔◌, ◌++◌, [], ◌∷◌, ◌+◌, ◌-◌, ◌*◌, ℕ, Some, length, slice_index, slice_get, IfOk, IfSome, IsNone, IsTrue};
 ghost use Rattle.list_pool.specs.Pool.{joined_lists};
 ghost use Rattle.chase_laws.specs.Joined.{Joined};
 ghost use Rattle.class_book.specs.Classes.{class_of, IsClass, IsLabelled, relabelled, going, staying, changed_count, size_of};
 
-use crate::enter::enter;
+use crate::choice::stay_and_go;
 use crate::fresh::{numbers, ones, singles};
+use crate::merge::merge;
 use chase_laws::Entry;
+use chase_laws::laws::law_joined;
 use gk_base::NoMemory;
 use list_pool::Pool;
 use std::alloc::Global;
@@ -25,7 +27,8 @@ pub struct Book {
 
 impl Model for Book {
     ghost use Rattle.std.specs.Prelude.{vec_capacity};
-    ghost use Rattle.class_book.specs.Classes.{Classes, IsBook};
+    ghost use Rattle.class_book.specs.Classes.{Classes};
+    ghost use Rattle.class_book.specs.Roster.{IsBook};
 
     ghost Value = { Classes };
 
@@ -146,13 +149,20 @@ impl Book {
             2 * changed_count self.old.labels self.new.labels ≤ size_of self.new.labels (staying self.old.labels x y) }
         ensures labelled { IsLabelled self.new.labels self.new.journal }
     {
-        enter(
+        law_joined();
+        let place = self.journal.len() as u32;
+        let first = self.labels[entry.a as usize];
+        let second = self.labels[entry.b as usize];
+        let (to, from) = stay_and_go(&self.sizes, first, second);
+        merge(
             &mut self.labels,
             &mut self.sizes,
             &mut self.members,
-            &mut self.journal,
-            entry,
-        )
+            to,
+            from,
+        );
+        self.journal.push_reserved(entry);
+        place
     }
 
     /// The labels and the journal. It takes no memory.

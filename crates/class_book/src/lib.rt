@@ -4,16 +4,13 @@
 //!
 //! - `book`: the book of classes
 //! - `fresh`: the parts of a book in which each node is alone
-//! - `enter`: an identification entered in the parts of a book
+//! - `choice`: which of two labels stays
 //! - `merge`: two classes made one
 #![tactic(auto)]
 
 mod book;
-mod enter;
+mod choice;
 mod fresh;
 mod merge;
 
 pub use book::Book;
-
-#[cfg(test)]
-mod tests;

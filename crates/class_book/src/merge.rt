@@ -1,9 +1,11 @@
-//! Two classes made one.
+//! Two classes made one, in their labels, sizes and members. These take the parts of a book, and not the book: labels say
+//! what the journal joins only once the identification is in it, and a call on a book would need that.
 
 ghost use Rattle.std.specs.Prelude.{◌≡◌, ◌≢◌, ◌<◌, ◌+◌, ◌==◌, ℕ, All, length, slice_index, if◌then◌else◌};
 ghost use Rattle.list_pool.specs.Counts.{times};
 ghost use Rattle.list_pool.specs.Pool.{list_at, joined_lists};
-ghost use Rattle.class_book.specs.Classes.{IsRoster, relabelled};
+ghost use Rattle.class_book.specs.Classes.{relabelled};
+ghost use Rattle.class_book.specs.Roster.{IsRoster};
 
 use list_pool::Pool;
 

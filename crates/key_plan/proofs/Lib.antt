@@ -1,3 +1,3 @@
-pub mod Ascending
-pub mod Blocks
-pub mod Levels
+mod Ascending
+mod Blocks
+mod Levels

@@ -1,4 +1,6 @@
+-- what callers of this crate read
 pub mod Distance
-pub mod Making
 pub mod Route
+-- inner invariants and words of the proofs
+pub mod Making
 pub mod Inner

@@ -1,4 +1,4 @@
-//! How far each slot is from slot 0.
+//! How far each slot is from slot 0, and the greatest of these distances.
 
 ghost use Rattle.std.specs.Prelude.{◌≡◌, ◌||◌, ◌≤◌, ◌<◌, ℕ, false, IfOk, length, map, replicate, slice_index_or};
 ghost use Rattle.std.specs.List.{list_any, range_with_len};
@@ -8,7 +8,7 @@ ghost use Rattle.key_plan.specs.Making.{AreRaised, IsGreatest};
 
 use chase_laws::{Edge, Pattern};
 use gk_base::NoMemory;
-use std::alloc::{AllocError, Global};
+use std::alloc::Global;
 
 /// Whether a slot is marked.
 fn is_marked(marks: &[bool], slot: u8) -> bool
@@ -42,7 +42,7 @@ fn is_within(edges: &[Edge], marks: &[bool], slot: usize) -> bool
 }
 
 /// A mark for slot 0 alone.
-fn first_marks(alloc: Global, pattern: &Pattern) -> Result<Vec<bool>, AllocError>
+fn first_marks(alloc: Global, pattern: &Pattern) -> Result<Vec<bool>, NoMemory>
     ensures { IfOk result (λ v. v.items ≡ marks pattern.now 0) }
 {
     let count = pattern.slots().len();
@@ -54,7 +54,7 @@ fn first_marks(alloc: Global, pattern: &Pattern) -> Result<Vec<bool>, AllocError
 }
 
 /// A mark for each slot that is marked already or that an edge joins with a marked one.
-fn wider_marks(alloc: Global, edges: &[Edge], before: &[bool]) -> Result<Vec<bool>, AllocError>
+fn wider_marks(alloc: Global, edges: &[Edge], before: &[bool]) -> Result<Vec<bool>, NoMemory>
     ensures { IfOk result (λ v. v.items ≡
         map (λ s. slice_index_or before.now s false || list_any (touches before.now s) edges.now) (range_with_len 0 (length before.now))) }
 {
@@ -78,10 +78,10 @@ fn set_unmarked(distances: &mut [u8], marks: &[bool], distance: u8)
 }
 
 /// As many zeros.
-pub fn zeros(alloc: Global, len: usize) -> Result<Vec<u8>, AllocError>
+pub fn zeros(alloc: Global, len: usize) -> Result<Vec<u8>, NoMemory>
     ensures { IfOk result (λ v. v.items ≡ replicate len 0) }
 {
-    vec![in alloc; 0u8; len]
+    Ok(vec![in alloc; 0u8; len]?)
 }
 
 /// The undirected distance of each slot from slot 0.

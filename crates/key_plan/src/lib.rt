@@ -15,6 +15,3 @@ mod renumber;
 
 pub use distance::distances;
 pub use plan::Plan;
-
-#[cfg(test)]
-mod tests;

@@ -1,4 +1,4 @@
-//! The slots by distance, and the place of each.
+//! The slots by their distance from slot 0, and the place of each in that order.
 
 ghost use Rattle.std.specs.Prelude.{◌≤◌, ◌+◌, IfOk, OnOk, length};
 ghost use Rattle.key_plan.specs.Distance.{AreDistances, IsOrder};
@@ -7,10 +7,11 @@ ghost use Rattle.key_plan.specs.Route.{AreInverse};
 
 use crate::distance::zeros;
 use chase_laws::Pattern;
-use std::alloc::{AllocError, Global};
+use gk_base::NoMemory;
+use std::alloc::Global;
 
 /// Adds the slots at this distance, ascending.
-fn push_all_at(order: &mut Vec<u8>, distances: &[u8], distance: u8) -> Result<(), AllocError>
+fn push_all_at(order: &mut Vec<u8>, distances: &[u8], distance: u8) -> Result<(), NoMemory>
     requires few { length distances.now ≤ 16 }
     requires before { IsUpTo distances.now distance 0 order.old.items }
     ensures { OnOk result (IsUpTo distances.now (distance + 1) 0 order.new.items) }
@@ -24,11 +25,12 @@ fn push_all_at(order: &mut Vec<u8>, distances: &[u8], distance: u8) -> Result<()
 }
 
 /// The slots of a pattern by their distances, and those at one distance by their numbers.
-pub fn slot_order(alloc: Global, pattern: &Pattern, distances: &[u8]) -> Result<Vec<u8>, AllocError>
+pub fn slot_order(alloc: Global, pattern: &Pattern, distances: &[u8]) -> Result<Vec<u8>, NoMemory>
     requires { AreDistances pattern.now distances.now }
     ensures order { IfOk result (λ v. IsOrder pattern.now v.items) }
     ensures listing { IfOk result (λ v. IsListing v.items) }
 {
+    // For the proof alone: a pattern has at most 16 slots.
     let _ = pattern.slots();
     let mut order = Vec::with_capacity(alloc, distances.len())?;
     for distance in 0..distances.len() as u8 + 1 {
@@ -38,7 +40,7 @@ pub fn slot_order(alloc: Global, pattern: &Pattern, distances: &[u8]) -> Result<
 }
 
 /// The place of each slot in an order.
-pub fn places(alloc: Global, order: &[u8]) -> Result<Vec<u8>, AllocError>
+pub fn places(alloc: Global, order: &[u8]) -> Result<Vec<u8>, NoMemory>
     requires { IsListing order.now }
     ensures { IfOk result (λ v. AreInverse order.now v.items) }
 {

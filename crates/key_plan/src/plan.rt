@@ -1,4 +1,4 @@
-//! Plans.
+//! A plan: the slots of a pattern in the order of a search, and for each the edges that lead back.
 
 ghost use Rattle.std.specs.Prelude.{◌≡◌, ◌<◌, ◌≤◌, ℕ, IfOk, Some, length, slice_get, slice_index};
 ghost use Rattle.key_plan.specs.Route.{IsPlanOf, IsBlock};

@@ -6,7 +6,8 @@ ghost use Rattle.key_plan.specs.Making.{is_proper, is_loop, block_of};
 ghost use Rattle.key_plan.specs.Route.{moved};
 
 use chase_laws::{Edge, Slot};
-use std::alloc::{AllocError, Global};
+use gk_base::NoMemory;
+use std::alloc::Global;
 
 /// An edge between the places of its slots.
 fn moved(edge: Edge, places: &[u8]) -> Edge
@@ -22,7 +23,7 @@ fn moved(edge: Edge, places: &[u8]) -> Edge
 }
 
 /// The edges between the places of their slots.
-pub fn moved_edges(alloc: Global, edges: &[Edge], places: &[u8]) -> Result<Vec<Edge>, AllocError>
+pub fn moved_edges(alloc: Global, edges: &[Edge], places: &[u8]) -> Result<Vec<Edge>, NoMemory>
     requires { All (λ e. (e.from < length places.now) × (e.to < length places.now)) edges.now }
     ensures { IfOk result (λ v. v.items ≡ map (moved places.now) edges.now) }
 {
@@ -34,7 +35,7 @@ pub fn moved_edges(alloc: Global, edges: &[Edge], places: &[u8]) -> Result<Vec<E
 }
 
 /// The slots in an order.
-pub fn moved_slots(alloc: Global, slots: &[Slot], order: &[u8]) -> Result<Vec<Slot>, AllocError>
+pub fn moved_slots(alloc: Global, slots: &[Slot], order: &[u8]) -> Result<Vec<Slot>, NoMemory>
     requires { All (λ s. s < length slots.now) order.now }
     ensures long { IfOk result (λ v. length v.items ≡ length order.now) }
     ensures each { IfOk result (λ v. (k : ℕ) → k < length order.now →
@@ -64,7 +65,7 @@ fn is_loop(edge: Edge, place: usize) -> bool
 }
 
 /// The edges that a place adds: those to and from earlier places, and then the loops.
-fn block(alloc: Global, edges: &[Edge], place: usize) -> Result<Vec<Edge>, AllocError>
+fn block(alloc: Global, edges: &[Edge], place: usize) -> Result<Vec<Edge>, NoMemory>
     ensures { IfOk result (λ v. v.items ≡ block_of edges.now place) }
 {
     let mut block = Vec::new(alloc);
@@ -82,7 +83,7 @@ fn block(alloc: Global, edges: &[Edge], place: usize) -> Result<Vec<Edge>, Alloc
 }
 
 /// The edges that each place adds.
-pub fn blocks(alloc: Global, edges: &[Edge], count: usize) -> Result<Vec<Vec<Edge>>, AllocError>
+pub fn blocks(alloc: Global, edges: &[Edge], count: usize) -> Result<Vec<Vec<Edge>>, NoMemory>
     ensures long { IfOk result (λ v. length v.items ≡ count) }
     ensures each { IfOk result (λ v. (s : ℕ) → s < count → (d : _) → (slice_index_or v.items s d).items ≡ block_of edges.now s) }
 {

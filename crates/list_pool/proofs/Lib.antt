@@ -1,11 +1,12 @@
-pub mod Cuts
-pub mod Fields
-pub mod Fresh
-pub mod Linking
-pub mod Looks
-pub mod Paths
-pub mod Plain
-pub mod Pools
-pub mod Shown
-pub mod Times
-pub mod Walks
+pub mod CallerLemmas
+mod Cuts
+mod Fields
+mod Fresh
+mod Linking
+mod Looks
+mod Paths
+mod Plain
+mod Pools
+mod Shown
+mod Times
+mod Walks

@@ -3,19 +3,16 @@
 //! growths; no later call takes any.
 //!
 //! - `pool`: the pool
-//! - `parts`: the calls that change a pool, over its parts
-//! - `links`: one link of a list, forwards and back
+//! - `links`: one link of a list, forwards and back, and the mark of a cell that stands in one
+//! - `empty`: cells in no list, and lists with no cell
 //! - `cell`: what is kept for a cell, and for a list
 //! - `optional_cell`: the number of a cell, or none
 #![tactic(auto)]
 
 mod cell;
+mod empty;
 mod links;
 mod optional_cell;
-mod parts;
 mod pool;
 
 pub use pool::Pool;
-
-#[cfg(test)]
-mod tests;

@@ -1,8 +1,9 @@
-//! One link of a list, forwards and back.
+//! One link of a list, forwards and back, and the mark of a cell that stands in one. They take the cells and the lists, and
+//! not a pool: between two links the invariant of a pool does not hold, and a call on a pool would need it.
 
 ghost use Rattle.std.specs.Prelude.{◌≡◌, ◌+◌, ◌<◌, ◌≤◌, ◌^◌, length};
 ghost use Rattle.std.specs.Option.{ForSome};
-ghost use Rattle.list_pool.specs.Links.{Links, cells_after, lists_after, cells_before, lists_before};
+ghost use Rattle.list_pool.specs.Links.{Links, cells_after, lists_after, cells_before, lists_before, cells_marked};
 
 use crate::cell::{Cell, Ends};
 use crate::optional_cell::OptionalCell;
@@ -60,4 +61,12 @@ fn link_before(
         None => lists[list as usize].last = left,
         Some(cell) => cells[cell as usize].before = left,
     }
+}
+
+/// Writes whether a cell stands in a list.
+pub fn mark(cells: &mut Vec<Cell>, cell: u32, held: bool)
+    requires { cell < length cells.old.items }
+    ensures { cells.new.items ≡ cells_marked cells.old.items cell held }
+{
+    cells[cell as usize].held = held;
 }

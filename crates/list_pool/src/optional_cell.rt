@@ -5,7 +5,8 @@ ghost use Rattle.std.specs.Option.{ForSome};
 
 use std::marker::Model;
 
-/// An `Option<u32>` below the last number, in four bytes. Cells are read in no order, so what they hold is kept small.
+/// An `Option<u32>` below the last number, in four bytes: the last number stands for none. Cells are read in no order, so
+/// what they hold is kept small.
 #[derive(Clone, Copy)]
 pub struct OptionalCell {
     number: u32,

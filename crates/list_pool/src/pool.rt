@@ -1,10 +1,12 @@
-//! A pool.
+//! A pool: its cells, its lists and the calls that change them.
 
 ghost use Rattle.std.specs.Prelude.{◌≡◌, ◌≢◌, ◌+◌, ◌-◌, ◌<◌, ◌↔◌, ◌++◌, ◌∷◌, [], ℕ, IfOk, IfSome, IfNone, IsNone, IsTrue, Contains, Some, length, slice_get, slice_set, drop, replicate, sum_by};
 ghost use Rattle.list_pool.specs.Pool.{list_at, IsFree, StandOnce, AreInRange, without, joined_lists};
 
 use crate::cell::{Cell, Ends};
-use crate::parts;
+use crate::empty::{empty_lists, free_cells, no_ends};
+use crate::links::{link, mark};
+use crate::optional_cell::OptionalCell;
 use gk_base::NoMemory;
 use std::alloc::Global;
 use std::marker::Model;
@@ -39,8 +41,8 @@ impl Pool {
         ensures spare { IfOk result (λ p. p.spare ≡ cells) }
     {
         Ok(Pool {
-            cells: parts::free_cells(alloc, cells)?,
-            lists: parts::empty_lists(alloc, lists)?,
+            cells: free_cells(alloc, cells)?,
+            lists: empty_lists(alloc, lists)?,
             spare: cells,
         })
     }
@@ -54,13 +56,13 @@ impl Pool {
         ensures cells { self.new.cells ≡ self.old.cells }
         ensures spare { self.new.spare + 1 ≡ self.old.spare }
     {
-        parts::push(
-            &mut self.cells,
-            &mut self.lists,
-            &mut self.spare,
-            list,
-            cell,
-        );
+        let last = self.lists[list as usize].last;
+        let new_last = OptionalCell::new(Some(cell));
+        let none = OptionalCell::none();
+        link(&mut self.cells, &mut self.lists, list, last, new_last);
+        link(&mut self.cells, &mut self.lists, list, new_last, none);
+        mark(&mut self.cells, cell, true);
+        self.spare -= 1;
     }
 
     /// Takes a cell out of the list that it stands in. The rest keeps its order.
@@ -72,13 +74,10 @@ impl Pool {
         ensures spare { self.new.spare ≡ self.old.spare + 1 }
         ensures free { IsFree self.new.lists cell }
     {
-        parts::remove(
-            &mut self.cells,
-            &mut self.lists,
-            &mut self.spare,
-            list,
-            cell,
-        );
+        let Cell { before, after, .. } = self.cells[cell as usize];
+        link(&mut self.cells, &mut self.lists, list, before, after);
+        mark(&mut self.cells, cell, false);
+        self.spare += 1;
     }
 
     /// Takes the first cell out of a list, and none exactly where the list is empty.
@@ -106,7 +105,14 @@ impl Pool {
         ensures cells { self.new.cells ≡ self.old.cells }
         ensures spare { self.new.spare ≡ self.old.spare }
     {
-        parts::splice(&mut self.cells, &mut self.lists, self.spare, into, from);
+        let Ends { first, last } = self.lists[from as usize];
+        if first.get().is_some() {
+            let end = self.lists[into as usize].last;
+            let none = OptionalCell::none();
+            link(&mut self.cells, &mut self.lists, into, end, first);
+            link(&mut self.cells, &mut self.lists, into, last, none);
+            self.lists[from as usize] = no_ends();
+        }
     }
 
     /// The first cell of a list, and none exactly where the list is empty.
@@ -133,6 +139,7 @@ impl Pool {
         ensures stands { IfSome result (Contains (list_at self.now.lists list)) }
         ensures last { let cells = list_at self.now.lists list in IsNone result ↔ (slice_get cells (length cells - 1) ≡ Some cell) }
     {
+        // Only the contract speaks of the list: what follows a cell is kept with the cell.
         let _ = list;
         self.cells[cell as usize].after.get()
     }

@@ -1,1 +1,1 @@
-pub mod Finished
+mod Finished

@@ -1,4 +1,4 @@
-//! A chase on one thread.
+//! Runs a chase to its end on one thread.
 
 ghost use Rattle.std.specs.Prelude.{◌≡◌, ◌≢◌, ◌≤◌, ◌++◌, List, ℕ, All, Contains, Some, slice_get};
 ghost use Rattle.chase_laws.specs.declared.entry.Entry.{Entry};

@@ -14,8 +14,3 @@ mod whole;
 pub use alone::chase_alone;
 pub use preparing::{Prepared, prepare};
 pub use whole::classes;
-
-#[cfg(test)]
-mod chase_tests;
-#[cfg(test)]
-mod tests;

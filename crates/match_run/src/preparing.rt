@@ -1,4 +1,4 @@
-//! What a chase needs before it runs.
+//! Makes what a chase works on from a graph and keys.
 
 ghost use Rattle.std.specs.Prelude.{◌≡◌, ◌<◌, ◌^◌, ◌↔◌, ℕ, Contains, length, IfOk, IfErr, OnOk};
 ghost use Rattle.chase_laws.specs.Candidate.{IsCandidate, IsCandidateCount};

@@ -1,4 +1,4 @@
-//! The classes of equal names.
+//! Answers the classes of equal names, from a graph and keys.
 
 ghost use Rattle.std.specs.Prelude.{◌<◌, ◌^◌, length, IfOk, IfErr, OnOk};
 ghost use Rattle.pair_seed.specs.Pairs.{HasMoreCandidates};

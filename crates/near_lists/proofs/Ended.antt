@@ -1,5 +1,5 @@
 -- Pairs as lists of their two numbers.
-use Rattle.std.proofs.Common.{List, [], ◌∷◌, ◌++◌, ℕ, zero, suc, All, Contains, map, length, get_or, slice_get, take, drop, replicate, ◌≡◌, ◌<◌, ◌≤◌, ◌+◌, ◌*◌, ◌↔◌, ◌⊎◌, inl, inr, refl, sym, ◌∙◌, ap, subst, arith, length-append, add-one}
+use Rattle.std.proofs.Common.{List, [], ◌∷◌, ◌++◌, ℕ, zero, suc, All, Contains, map, length, get_or, take, drop, replicate, ◌≡◌, ◌<◌, ◌≤◌, ◌+◌, ◌*◌, ◌↔◌, ◌⊎◌, inl, inr, refl, sym, ◌∙◌, ap, subst, arith, length-append, add-one}
 use Rattle.std.specs.List.{concat}
 use Rattle.std.specs.List.Sorted.{IsStrictlyIncreasing}
 use Rattle.std.proofs.lemmas.Bool.{cases_lt}
@@ -8,7 +8,8 @@ use Rattle.std.proofs.lemmas.List.Elements.{All-nil, All-cons}
 use Rattle.std.proofs.lemmas.Option.{slice_get-get_or, slice_get_within, get_or_from_slice_get}
 use Rattle.list_pool.specs.Pool.{list_at}
 use Rattle.list_pool.specs.Counts.{times}
-use Rattle.near_lists.specs.Turning.{HasEnd, ends_of, owners_below}
+use Rattle.near_lists.specs.Turning.{HasEnd}
+use Rattle.near_lists.specs.Owners.{ends_of, owners_below}
 use Rattle.near_lists.proofs.Counted.{times-le-length}
 
 -- the two numbers of a pair

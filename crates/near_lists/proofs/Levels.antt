@@ -9,7 +9,7 @@ use Rattle.chase_laws.specs.declared.pattern.Slot.{Slot}
 use Rattle.chase_laws.specs.declared.pattern.Edge.{Edge}
 use Rattle.chase_laws.specs.Shape.{Shape, PatternFacts, touches, marks, reached}
 use Rattle.chase_laws.specs.Near.{edge_of}
-use Rattle.chase_laws.proofs.NearLaws.{reached_next, reached_later}
+use Rattle.chase_laws.proofs.CallerLemmas.{reached_next, reached_later}
 use Rattle.key_plan.specs.Distance.{IsDistance, AreDistances}
 use Rattle.near_lists.specs.declared.legs.Leg.{Leg}
 use Rattle.near_lists.specs.Legs.{edge_by, edge_along, IsAtLevel, IsLegAt, IsLegOf, RiseTo, IsLeg, LeadsOn, AreOrdered, AreAllLegs, AreUseful, AreLegs}

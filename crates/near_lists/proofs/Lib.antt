@@ -1,11 +1,11 @@
-pub mod Counted
-pub mod Filled
-pub mod Owners
-pub mod Ended
-pub mod Pushes
-pub mod Ranges
-pub mod Adding
-pub mod Levels
-pub mod Reaching
-pub mod Nearness
-pub mod Walking
+mod Counted
+mod Filled
+mod Owners
+mod Ended
+mod Pushes
+mod Ranges
+mod Adding
+mod Levels
+mod Reaching
+mod Nearness
+mod Walking

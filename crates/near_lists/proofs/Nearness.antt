@@ -7,9 +7,9 @@ use Rattle.std.proofs.lemmas.List.Elements.{Contains-get_or, All-contains, All-f
 use Rattle.chase_laws.specs.Shape.{Shape}
 use Rattle.chase_laws.specs.Graph.{NumberedGraph, HasRow, IsGraph, IsEntity}
 use Rattle.chase_laws.specs.Near.{IsNear}
-use Rattle.chase_laws.proofs.NearLaws.{near_entity}
+use Rattle.chase_laws.proofs.CallerLemmas.{near_entity}
 use Rattle.list_pool.specs.Pool.{list_at}
-use Rattle.near_lists.specs.Turning.{owners_of}
+use Rattle.near_lists.specs.Owners.{owners_of}
 use Rattle.near_lists.specs.Neighbourhoods.{AreNeighbourhoods}
 use Rattle.near_lists.proofs.Owners.{owners_rise, Contains_all_owners}
 

@@ -7,7 +7,7 @@ use Rattle.chase_laws.specs.Shape.{Shape, reached, is_entity}
 use Rattle.chase_laws.specs.Graph.{NumberedGraph}
 use Rattle.chase_laws.specs.Valuation.{Designates}
 use Rattle.chase_laws.specs.Near.{AreLinked, StandsAt}
-use Rattle.chase_laws.proofs.Patterns.{get_or-map_range}
+use Rattle.chase_laws.proofs.CallerLemmas.{get_or-map_range}
 use Rattle.key_plan.specs.Distance.{IsDistance}
 use Rattle.near_lists.specs.declared.legs.Leg.{Leg}
 use Rattle.near_lists.specs.Legs.{edge_by, IsLeg, LeadsOn, AreLegs}

@@ -14,13 +14,15 @@ HasRowBy G false m p n = HasRow G n p m
 abbrev pub Leads : NumberedGraph → Leg → ℕ → ℕ → Type 0
 Leads G leg m n = FitsSlot G leg.slot n × HasRowBy G leg.forward m leg.pred n
 
--- the first k legs, taken one after another, bring n to slot s; before the first, e alone stands at slot 0
+-- in a walk from the start, the legs of that count, taken one after another, bring to the slot the name; before the first
+-- leg the start alone stands at slot 0
 abbrev pub Brings : NumberedGraph → List Leg → ℕ → ℕ → ℕ → ℕ → Type 0
-Brings G legs e zero s n = (s ≡ 0) × (n ≡ e)
-Brings G legs e (suc k) s n =
-    Brings G legs e k s n ⊎ ((leg : Leg) × (slice_get legs k ≡ Some leg) × (leg.far ≡ s) × ((m : ℕ) × Brings G legs e k leg.near m × Leads G leg m n))
+Brings G legs start zero slot name = (slot ≡ 0) × (name ≡ start)
+Brings G legs start (suc count) slot name =
+    Brings G legs start count slot name ⊎ ((leg : Leg) × (slice_get legs count ≡ Some leg) × (leg.far ≡ slot) × ((m : ℕ) × Brings G legs start count leg.near m × Leads G leg m name))
 
--- n stands at slot s: it is e at slot 0, or stands in the list of a leg that leads there
+-- by the lists of the legs of a walk from the start, the name stands at the slot: it is the start at slot 0, or stands in
+-- the list of a leg that leads there
 abbrev pub IsFound : List Leg → List (List ℕ) → ℕ → ℕ → ℕ → Type 0
-IsFound legs lists e s n =
-    ((s ≡ 0) × (n ≡ e)) ⊎ ((j : ℕ) × (leg : Leg) × (slice_get legs j ≡ Some leg) × (leg.far ≡ s) × Contains (list_at lists j) n)
+IsFound legs lists start slot name =
+    ((slot ≡ 0) × (name ≡ start)) ⊎ ((j : ℕ) × (leg : Leg) × (slice_get legs j ≡ Some leg) × (leg.far ≡ slot) × Contains (list_at lists j) name)

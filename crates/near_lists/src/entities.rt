@@ -11,7 +11,7 @@ use crate::rows::Rows;
 use crate::walk::{Walk, push_near, sort_once};
 use chase_laws::Pattern;
 use gk_base::NoMemory;
-use std::alloc::{AllocError, Global};
+use std::alloc::Global;
 use std::marker::Model;
 use typed_graph::Graph;
 
@@ -66,7 +66,7 @@ fn find(
     e: u32,
     walk: &mut Walk,
     entities: &mut Vec<u32>,
-) -> Result<(), AllocError>
+) -> Result<(), NoMemory>
     requires tours { AreTours patterns.now tours.now }
     ensures ascending { OnOk result (IsStrictlyIncreasing entities.new.items) }
     ensures exact { OnOk result ((n : ℕ) → Contains entities.new.items n ↔ IsNear graph.now patterns.now e n) }

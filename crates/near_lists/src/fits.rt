@@ -1,4 +1,4 @@
-//! What fits a slot.
+//! Whether a name fits a slot, by its kind, its type or the constant.
 
 ghost use Rattle.std.specs.Prelude.{◌↔◌, IsTrue};
 ghost use Rattle.chase_laws.specs.Valuation.{FitsSlot};

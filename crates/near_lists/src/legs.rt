@@ -11,7 +11,7 @@ ghost use Rattle.near_lists.specs.Legs.{edge_along, IsAtLevel, IsLegAt, IsLegOf,
 use chase_laws::{Edge, Pattern, Slot};
 use gk_base::NoMemory;
 use key_plan::distances;
-use std::alloc::{AllocError, Global};
+use std::alloc::Global;
 
 /// A step of a walk along an edge of a pattern, from a slot to one that is further from slot 0.
 #[derive(Clone, Copy)]
@@ -55,7 +55,7 @@ fn leg_along(slots: &[Slot], edge: Edge, forward: bool) -> Leg
 }
 
 /// Adds a leg, if it leads from a slot at a distance to one at the next.
-fn push_leg(distances: &[u8], level: u8, leg: Leg, legs: &mut Vec<Leg>) -> Result<(), AllocError>
+fn push_leg(distances: &[u8], level: u8, leg: Leg, legs: &mut Vec<Leg>) -> Result<(), NoMemory>
     requires near { leg.near < length distances.now }
     requires far { leg.far < length distances.now }
     requires level { level < 16 }
@@ -76,7 +76,7 @@ fn push_along(
     level: u8,
     edge: Edge,
     legs: &mut Vec<Leg>,
-) -> Result<(), AllocError>
+) -> Result<(), NoMemory>
     requires from { edge.from < length slots.now }
     requires to { edge.to < length slots.now }
     requires distances { length distances.now ≡ length slots.now }
@@ -98,7 +98,7 @@ fn push_level(
     distances: &[u8],
     level: u8,
     legs: &mut Vec<Leg>,
-) -> Result<(), AllocError>
+) -> Result<(), NoMemory>
     requires distances { length distances.now ≡ length pattern.now.slots }
     requires level { level < 16 }
     requires rise { RiseTo distances.now level legs.old.items }
@@ -142,7 +142,7 @@ fn leads_on(legs: &[Leg], leg: Leg) -> bool
 
 /// Those of the legs that lead on to entity variables. The legs that a leg leads on to stand behind it, so the last one
 /// is looked at first.
-fn useful(alloc: Global, all: &[Leg]) -> Result<Vec<Leg>, AllocError>
+fn useful(alloc: Global, all: &[Leg]) -> Result<Vec<Leg>, NoMemory>
     requires { AreOrdered all.now }
     ensures { IfOk result (λ v. AreUseful all.now v.items) }
 {

@@ -27,6 +27,3 @@ mod walk;
 pub use near::Near;
 pub use pairs::pairs_by_end;
 pub use rows::Rows;
-
-#[cfg(test)]
-mod tests;

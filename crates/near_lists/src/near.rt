@@ -1,4 +1,4 @@
-//! Near lists and owners.
+//! Near lists, and the owners: the same lists turned round.
 
 ghost use Rattle.std.specs.Prelude.{◌≡◌, ◌<◌, ◌↔◌, ℕ, All, Contains, IfOk, length};
 ghost use Rattle.std.specs.List.Sorted.{IsStrictlyIncreasing};

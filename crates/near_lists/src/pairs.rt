@@ -4,16 +4,17 @@
 ghost use Rattle.std.specs.Prelude.{◌≡◌, ◌<◌, ◌≤◌, ◌+◌, ◌↔◌, ◌^◌, ℕ, All, Contains, IfOk, length, map, slice_index};
 ghost use Rattle.std.specs.List.Sorted.{IsStrictlyIncreasing};
 ghost use Rattle.list_pool.specs.Pool.{list_at};
-ghost use Rattle.near_lists.specs.Turning.{HasEnd, ends_of, owners_of};
+ghost use Rattle.near_lists.specs.Turning.{HasEnd};
+ghost use Rattle.near_lists.specs.Owners.{ends_of, owners_of};
 
 use crate::filling::Filling;
 use crate::rows::Rows;
 use crate::turn::{put_row, tally};
 use gk_base::NoMemory;
-use std::alloc::{AllocError, Global};
+use std::alloc::Global;
 
 /// How many of the pairs have each number below `names`.
-fn pair_tallies(alloc: Global, pairs: &[(u32, u32)], names: u32) -> Result<Vec<usize>, AllocError>
+fn pair_tallies(alloc: Global, pairs: &[(u32, u32)], names: u32) -> Result<Vec<usize>, NoMemory>
     requires few { length pairs.now < 2 ^ 32 }
     requires named { All (λ p. (p.0 < p.1) × (p.1 < names)) pairs.now }
     ensures one_each { IfOk result (λ v. length v.items ≡ names) }

@@ -3,16 +3,16 @@
 ghost use Rattle.std.specs.Prelude.{[], ◌∷◌, ◌++◌, ◌≡◌, ◌<◌, ◌≤◌, IfOk, OnErr, OnOk, length, slice_range};
 ghost use Rattle.std.specs.List.{concat};
 ghost use Rattle.list_pool.specs.Pool.{list_at};
-ghost use Rattle.near_lists.specs.Lists.{cut, AreStarts};
 
-use std::alloc::{AllocError, Global};
+use gk_base::NoMemory;
+use std::alloc::Global;
 use std::marker::Model;
 
 /// Lists of numbers one behind the other, with the place where each begins, and the end. Contracts see the lists.
 #[derive(Drop)]
 pub struct Rows {
-    starts: Vec<usize>,
-    items: Vec<u32>,
+    pub(crate) starts: Vec<usize>,
+    pub(crate) items: Vec<u32>,
 }
 
 impl Model for Rows {
@@ -37,7 +37,7 @@ fn part(items: &[u32], start: usize, end: usize) -> &[u32]
 
 impl Rows {
     /// No lists.
-    pub fn new(alloc: Global) -> Result<Rows, AllocError>
+    pub(crate) fn new(alloc: Global) -> Result<Rows, NoMemory>
         ensures { IfOk result (λ r. r ≡ []) }
     {
         let mut starts = Vec::new(alloc);
@@ -49,19 +49,11 @@ impl Rows {
     }
 
     /// Takes all lists out. The memory is kept.
-    pub fn clear(&mut self)
+    pub(crate) fn clear(&mut self)
         ensures { self.new ≡ [] }
     {
         self.starts.truncate(1);
         self.items.clear();
-    }
-
-    /// The lists that these parts hold.
-    pub fn from_parts(starts: Vec<usize>, items: Vec<u32>) -> Rows
-        requires { AreStarts starts.items items.items }
-        ensures { result ≡ cut starts.items items.items }
-    {
-        Rows { starts, items }
     }
 
     /// How many lists there are.
@@ -82,14 +74,14 @@ impl Rows {
     }
 
     /// The numbers of all lists.
-    pub fn items(&self) -> &[u32]
+    pub(crate) fn items(&self) -> &[u32]
         ensures { result.now ≡ concat self.now }
     {
         &self.items
     }
 
     /// Adds a list at the end. After want of memory the lists are as before.
-    pub fn push(&mut self, list: &[u32]) -> Result<(), AllocError>
+    pub(crate) fn push(&mut self, list: &[u32]) -> Result<(), NoMemory>
         ensures ok { OnOk result (self.new ≡ self.old ++ list.now ∷ []) }
         ensures err { OnErr result (self.new ≡ self.old) }
     {

@@ -3,12 +3,12 @@
 ghost use Rattle.std.specs.Prelude.{◌++◌, ◌≡◌, ◌<◌, ◌≤◌, ◌+◌, ◌^◌, ℕ, All, IfOk, length, slice_index, replicate};
 ghost use Rattle.list_pool.specs.Pool.{list_at};
 ghost use Rattle.list_pool.specs.Counts.{times};
-ghost use Rattle.near_lists.specs.Turning.{owners_of, owners_below};
+ghost use Rattle.near_lists.specs.Owners.{owners_of, owners_below};
 
 use crate::filling::Filling;
 use crate::rows::Rows;
 use gk_base::NoMemory;
-use std::alloc::{AllocError, Global};
+use std::alloc::Global;
 
 /// Adds to each number's tally how often it stands among these.
 pub(crate) fn tally(tallies: &mut [usize], items: &[u32])
@@ -23,7 +23,7 @@ pub(crate) fn tally(tallies: &mut [usize], items: &[u32])
 }
 
 /// How often each number below `names` stands among these.
-fn tallies(alloc: Global, items: &[u32], names: u32) -> Result<Vec<usize>, AllocError>
+fn tallies(alloc: Global, items: &[u32], names: u32) -> Result<Vec<usize>, NoMemory>
     requires { All (λ m. m < names) items.now }
     ensures one_each { IfOk result (λ v. length v.items ≡ names) }
     ensures each { IfOk result (λ v. (n : ℕ) → n < names → slice_index v.items n ≡ times items.now n) }

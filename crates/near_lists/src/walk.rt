@@ -17,7 +17,8 @@ use crate::fits::fits;
 use crate::legs::{Leg, is_entity};
 use crate::rows::Rows;
 use chase_laws::{Pattern, Slot};
-use std::alloc::{AllocError, Global};
+use gk_base::NoMemory;
+use std::alloc::Global;
 use typed_graph::Graph;
 
 /// Adds those of the names that fit a slot.
@@ -26,7 +27,7 @@ fn push_fitting(
     slot: Slot,
     names: &[u32],
     found: &mut Vec<u32>,
-) -> Result<(), AllocError>
+) -> Result<(), NoMemory>
     ensures { OnOk result (Adds found.old.items found.new.items (λ n. Contains names.now n × FitsSlot graph.now slot n)) }
 {
     for n in names {
@@ -49,7 +50,7 @@ fn next(graph: &Graph, leg: Leg, m: u32) -> &[u32]
 }
 
 /// Adds what a leg leads to from a name.
-fn push_next(graph: &Graph, leg: Leg, m: u32, found: &mut Vec<u32>) -> Result<(), AllocError>
+fn push_next(graph: &Graph, leg: Leg, m: u32, found: &mut Vec<u32>) -> Result<(), NoMemory>
     ensures { OnOk result (Adds found.old.items found.new.items (Leads graph.now leg m)) }
 {
     push_fitting(graph, leg.slot, next(graph, leg, m), found)?;
@@ -57,7 +58,7 @@ fn push_next(graph: &Graph, leg: Leg, m: u32, found: &mut Vec<u32>) -> Result<()
 }
 
 /// Adds what a leg leads to from each of the names.
-fn push_each(graph: &Graph, leg: Leg, names: &[u32], found: &mut Vec<u32>) -> Result<(), AllocError>
+fn push_each(graph: &Graph, leg: Leg, names: &[u32], found: &mut Vec<u32>) -> Result<(), NoMemory>
     ensures { OnOk result (Adds found.old.items found.new.items
         (λ n. (m : ℕ) × Contains names.now m × Leads graph.now leg m n)) }
 {
@@ -74,7 +75,7 @@ fn push_behind(
     before: Leg,
     names: &[u32],
     found: &mut Vec<u32>,
-) -> Result<(), AllocError>
+) -> Result<(), NoMemory>
     ensures { OnOk result (Adds found.old.items found.new.items
         (λ n. (before.far ≡ leg.near) × ((m : ℕ) × Contains names.now m × Leads graph.now leg m n))) }
 {
@@ -85,7 +86,7 @@ fn push_behind(
 }
 
 /// Adds what a leg leads to from a name, if it begins at slot 0.
-fn push_first(graph: &Graph, leg: Leg, start: u32, found: &mut Vec<u32>) -> Result<(), AllocError>
+fn push_first(graph: &Graph, leg: Leg, start: u32, found: &mut Vec<u32>) -> Result<(), NoMemory>
     ensures { OnOk result (Adds found.old.items found.new.items (λ n. (leg.near ≡ 0) × Leads graph.now leg start n)) }
 {
     if leg.near == 0 {
@@ -102,7 +103,7 @@ fn push_leg(
     start: u32,
     lists: &Rows,
     found: &mut Vec<u32>,
-) -> Result<(), AllocError>
+) -> Result<(), NoMemory>
     requires { length lists.now ≤ length legs.now }
     ensures { OnOk result (Adds found.old.items found.new.items
         (λ n. (m : ℕ) × IsFound legs.now lists.now start leg.near m × Leads graph.now leg m n)) }
@@ -133,7 +134,7 @@ pub struct Walk {
 
 impl Walk {
     /// A walk that has taken no leg.
-    pub fn new(alloc: Global) -> Result<Walk, AllocError> {
+    pub fn new(alloc: Global) -> Result<Walk, NoMemory> {
         Ok(Walk {
             lists: Rows::new(alloc)?,
             found: Vec::new(alloc),
@@ -148,7 +149,7 @@ fn take_leg(
     leg: Leg,
     start: u32,
     walk: &mut Walk,
-) -> Result<(), AllocError>
+) -> Result<(), NoMemory>
     requires { length walk.old.lists ≤ length legs.now }
     ensures lists { walk.new.lists ≡ walk.old.lists }
     ensures exact { OnOk result ((n : ℕ) → Contains walk.new.found.items n ↔
@@ -161,7 +162,7 @@ fn take_leg(
 }
 
 /// Takes one leg after another.
-fn take_legs(graph: &Graph, legs: &[Leg], start: u32, walk: &mut Walk) -> Result<(), AllocError>
+fn take_legs(graph: &Graph, legs: &[Leg], start: u32, walk: &mut Walk) -> Result<(), NoMemory>
     ensures one_each { OnOk result (length walk.new.lists ≡ length legs.now) }
     ensures exact { OnOk result ((s n : ℕ) →
         IsFound legs.now walk.new.lists start s n ↔ Brings graph.now legs.now start (length legs.now) s n) }
@@ -175,7 +176,7 @@ fn take_legs(graph: &Graph, legs: &[Leg], start: u32, walk: &mut Walk) -> Result
 }
 
 /// Adds a list, if a slot is an entity variable.
-fn push_list(slot: Slot, list: &[u32], entities: &mut Vec<u32>) -> Result<(), AllocError>
+fn push_list(slot: Slot, list: &[u32], entities: &mut Vec<u32>) -> Result<(), NoMemory>
     ensures { OnOk result (Adds entities.old.items entities.new.items
         (λ n. IsTrue (is_entity (Some slot)) × Contains list.now n)) }
 {
@@ -186,7 +187,7 @@ fn push_list(slot: Slot, list: &[u32], entities: &mut Vec<u32>) -> Result<(), Al
 }
 
 /// Adds the lists of the legs that lead to entity variables.
-fn push_entities(legs: &[Leg], lists: &Rows, entities: &mut Vec<u32>) -> Result<(), AllocError>
+fn push_entities(legs: &[Leg], lists: &Rows, entities: &mut Vec<u32>) -> Result<(), NoMemory>
     requires { length lists.now ≤ length legs.now }
     ensures { OnOk result (Adds entities.old.items entities.new.items
         (λ n. (j : ℕ) × ((leg : Leg) × (slice_get legs.now j ≡ Some leg) × IsTrue (is_entity (Some leg.slot)) × Contains (list_at lists.now j) n))) }
@@ -205,7 +206,7 @@ pub fn push_near(
     start: u32,
     walk: &mut Walk,
     entities: &mut Vec<u32>,
-) -> Result<(), AllocError>
+) -> Result<(), NoMemory>
     requires { AreLegs pattern.now legs.now }
     ensures { OnOk result (Adds entities.old.items entities.new.items (IsInReach graph.now pattern.now start)) }
 {

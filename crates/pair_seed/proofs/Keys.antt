@@ -105,17 +105,17 @@ all_places G Q a b = (
 )
 
 -- a literal of a that b has, or where values are folded is alike to one of b, is shared
-pub holds_shares : (G : NumberedGraph) (f : Bool) (p a b l : ℕ) → HasRow G a p l → IsLiteral G l → Holds G f p l b → Shares G (value_slot f) p a b
+pub holds_shares : (G : NumberedGraph) (f : Bool) (p a b l : ℕ) → HasRow G a p l → IsLiteral G l → Holds G f b p l → Shares G (value_slot f) p a b
 holds_shares G true p a b l row literal h = (l, h.literal, literal, h.is_literal, row, h.row, sym h.alike)
 holds_shares G false p a b l row literal h = (l, literal, row, h)
 
-pub shares_holds : (G : NumberedGraph) (f : Bool) (p a b : ℕ) → Shares G (value_slot f) p a b → (l : ℕ) × HasRow G a p l × IsLiteral G l × Holds G f p l b
+pub shares_holds : (G : NumberedGraph) (f : Bool) (p a b : ℕ) → Shares G (value_slot f) p a b → (l : ℕ) × HasRow G a p l × IsLiteral G l × Holds G f b p l
 shares_holds G true p a b s = (s.0, s.4, s.2, record { literal = s.1; is_literal = s.3; row = s.5; alike = sym s.6 })
 shares_holds G false p a b s = (s.0, s.2, s.1, s.3)
 
 module _ (G : NumberedGraph) (Q : Shape) (lead : Lead) (is : IsLead Q lead) where
   -- whom the lead's literals lead to shares one
-  pub lead_shares : (a b l : ℕ) → HasRow G a lead.pred l → IsLiteral G l → Holds G lead.folded lead.pred l b → SharesAtPlace G Q lead.place a b
+  pub lead_shares : (a b l : ℕ) → HasRow G a lead.pred l → IsLiteral G l → Holds G lead.folded b lead.pred l → SharesAtPlace G Q lead.place a b
   lead_shares a b l row literal h e here =
       let same : is.edge ≡ e = some_same is.edge e (sym is.found ∙ here) in
       let shared : Shares G (value_slot lead.folded) is.edge.pred a b = subst (λ p. Shares G (value_slot lead.folded) p a b) (sym is.pred) (holds_shares G lead.folded lead.pred a b l row literal h) in

@@ -1,5 +1,5 @@
-pub mod Lists
-pub mod Keys
-pub mod Steps
-pub mod InOrder
-pub mod Whole
+mod Lists
+mod Keys
+mod Steps
+mod InOrder
+mod Whole

@@ -39,12 +39,12 @@ module _ (G : NumberedGraph) (Q : Shape) (a : ℕ) (old : List ℕ) where
 
   -- a literal
   pub gathered_literal : (f : Bool) (p : ℕ) (ls mid new : List ℕ) (i : ℕ) → i < length ls → Gathered G Q a old mid (HoldsOneOf G f p (take i ls)) →
-      Gathered G Q a mid new (λ b. IsLiteral G (get_or ls i 0) × Holds G f p (get_or ls i 0) b) → Gathered G Q a old new (HoldsOneOf G f p (take (i + 1) ls))
+      Gathered G Q a mid new (λ b. IsLiteral G (get_or ls i 0) × Holds G f b p (get_or ls i 0)) → Gathered G Q a old new (HoldsOneOf G f p (take (i + 1) ls))
   gathered_literal f p ls mid new i h g x = record {
     keeps = λ b c. x.keeps b (g.keeps b c);
     adds = λ b one below with_b. elim (contains_more ls i one.0 h one.1) [
       | inl c' ↦ x.keeps b (g.adds b (one.0, c', one.2, one.3) below with_b)
-      | inr same ↦ x.adds b (subst (λ l. IsLiteral G l × Holds G f p l b) (sym same) (one.2, one.3)) below with_b
+      | inr same ↦ x.adds b (subst (λ l. IsLiteral G l × Holds G f b p l) (sym same) (one.2, one.3)) below with_b
     ];
     only = λ b c. elim (x.only b c) [
       | inl c' ↦ g.only b c'

@@ -15,8 +15,8 @@ pub record HasAlike (G : NumberedGraph) (n p c : ℕ) : Type 0 where
 
 -- under p, b has the literal l, or where values are folded one that is alike to l
 abbrev pub Holds : NumberedGraph → Bool → ℕ → ℕ → ℕ → Type 0
-Holds G true p l b = HasAlike G b p (slice_index G.alike l)
-Holds G false p l b = HasRow G b p l
+Holds G true b p l = HasAlike G b p (slice_index G.alike l)
+Holds G false b p l = HasRow G b p l
 
 -- the table has (c, p, n) exactly where n has under p a literal that is alike to c
 abbrev pub IsFoldTable : NumberedGraph → Table → Type 0

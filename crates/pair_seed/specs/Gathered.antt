@@ -14,7 +14,7 @@ pub record Gathered (G : NumberedGraph) (Q : Shape) (a : ℕ) (old new : List �
 
 -- b has one of some literals, or one that is alike to it
 abbrev pub HoldsOneOf : NumberedGraph → Bool → ℕ → List ℕ → ℕ → Type 0
-HoldsOneOf G folded p literals b = (l : ℕ) × Contains literals l × IsLiteral G l × Holds G folded p l b
+HoldsOneOf G folded p literals b = (l : ℕ) × Contains literals l × IsLiteral G l × Holds G folded b p l
 
 -- the numbers make candidates with a, and all that the first n keys find are there
 pub record Found (G : NumberedGraph) (K : List Shape) (a n : ℕ) (bs : List ℕ) : Type 0 where

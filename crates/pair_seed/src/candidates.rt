@@ -1,4 +1,4 @@
-//! All candidate pairs.
+//! All candidate pairs: entity by entity, up to a limit.
 
 ghost use Rattle.std.specs.Prelude.{◌≡◌, ◌<◌, ◌≤◌, ◌^◌, ◌↔◌, ◌++◌, ℕ, All, Contains, IfOk, IfErr, OnOk, length, map};
 ghost use Rattle.chase_laws.specs.Candidate.{IsCandidate, AreAscending};
@@ -6,16 +6,17 @@ ghost use Rattle.chase_laws.specs.Chase.{IsAble};
 ghost use Rattle.pair_seed.specs.Pairs.{HasMoreCandidates};
 ghost use Rattle.pair_seed.specs.Stop.{IsRightStop};
 
-use crate::SeedStop;
 use crate::folds::table_for;
 use crate::gather::partners;
+use crate::{SeedStop, TooManyPairs};
 use chase_laws::laws::law_able;
 use chase_laws::{Pattern, all_valid};
-use std::alloc::{AllocError, Global};
+use gk_base::NoMemory;
+use std::alloc::Global;
 use typed_graph::Graph;
 
 /// Adds the pairs of one entity with its partners.
-fn push_all(pairs: &mut Vec<(u32, u32)>, a: u32, bs: &[u32]) -> Result<(), AllocError>
+fn push_all(pairs: &mut Vec<(u32, u32)>, a: u32, bs: &[u32]) -> Result<(), NoMemory>
     ensures { IfOk result (λ _. pairs.new.items ≡ pairs.old.items ++ map (λ b. (a, b)) bs.now) }
 {
     for b in bs {
@@ -28,7 +29,7 @@ fn push_all(pairs: &mut Vec<(u32, u32)>, a: u32, bs: &[u32]) -> Result<(), Alloc
 /// type of both, and for each of its edges from slot 0 to a value variable they share a literal under its predicate, or
 /// where the variable is folded two literals that are alike.
 ///
-/// `TooManyPairs` comes where there are more than `limit`, and `NoMemory` where memory ran out.
+/// The fault, `TooManyPairs`, comes where there are more than `limit`, and `NoMemory` where memory ran out.
 pub fn seed(
     alloc: Global,
     graph: &Graph,
@@ -44,6 +45,7 @@ pub fn seed(
     ensures no_more { OnOk result (¬ (HasMoreCandidates graph.now patterns.now limit)) }
     ensures stop { IfErr result (IsRightStop graph.now patterns.now limit) }
 {
+    // Two facts for the proof: able pairs are candidates, and patterns are valid.
     law_able();
     all_valid(patterns);
     let folds = table_for(alloc, graph, patterns)?;
@@ -52,7 +54,7 @@ pub fn seed(
     for a in 0..graph.names() {
         partners(graph, &folds, patterns, a, &mut near)?;
         if near.len() as u64 > limit - pairs.len() as u64 {
-            return Err(SeedStop::TooManyPairs { found: limit + 1 });
+            return Err(SeedStop::Fault(TooManyPairs { found: limit + 1 }));
         }
         push_all(&mut pairs, a, &near)?;
     }

@@ -8,7 +8,7 @@ ghost use Rattle.pair_seed.specs.Folds.{HasAlike, IsFoldTable, IsFoldedEdge, Ser
 use crate::parts::{edge_at, edge_count, slot_at};
 use chase_laws::{Edge as PatternEdge, Pattern, Slot};
 use gk_base::NoMemory;
-use std::alloc::{AllocError, Global};
+use std::alloc::Global;
 use typed_graph::{Graph, Index};
 
 /// Whether an edge leads from slot 0 to a folded value variable.
@@ -50,7 +50,7 @@ fn any_folded(patterns: &[Pattern]) -> bool
 }
 
 /// For each row whose object is a literal: what that is alike to, the predicate and the subject.
-fn folded_rows(alloc: Global, graph: &Graph) -> Result<Vec<[u32; 3]>, AllocError>
+fn folded_rows(alloc: Global, graph: &Graph) -> Result<Vec<[u32; 3]>, NoMemory>
     ensures rows { IfOk result (λ v. (c p n : ℕ) → Contains v.items (c ∷ p ∷ n ∷ []) ↔ HasAlike graph.now n p c) }
     ensures named { IfOk result (λ v. All (λ row. slice_index row 0 < length graph.now.literal) v.items) }
 {
@@ -68,8 +68,7 @@ fn folded_table(alloc: Global, graph: &Graph) -> Result<Index, NoMemory>
     ensures { IfOk result (λ t. IsFoldTable graph.now t) }
 {
     let rows = folded_rows(alloc, graph)?;
-    let table = Index::build(alloc, rows, graph.names())?;
-    Ok(table)
+    Index::build(alloc, rows, graph.names())
 }
 
 /// The table that the patterns need.

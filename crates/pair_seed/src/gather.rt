@@ -1,4 +1,4 @@
-//! The partners of one entity.
+//! The partners of one entity: gathered key by key, then sorted, each once.
 
 ghost use Rattle.std.specs.Prelude.{◌≡◌, ◌<◌, ◌↔◌, ℕ, [], ◌∷◌, ⊤, All, Contains, IfOk, length, slice_get, Some};
 ghost use Rattle.chase_laws.specs.Shape.{Shape};
@@ -12,7 +12,7 @@ use crate::lead::{Lead, choose};
 use crate::parts::edge_count;
 use crate::share::{designates, pairs_with};
 use chase_laws::Pattern;
-use std::alloc::AllocError;
+use gk_base::NoMemory;
 use typed_graph::ascending::above;
 use typed_graph::{Graph, Index};
 
@@ -25,7 +25,7 @@ fn gather(
     a: u32,
     bs: &[u32],
     near: &mut Vec<u32>,
-) -> Result<(), AllocError>
+) -> Result<(), NoMemory>
     requires folds { Serves graph.now folds.now pattern.now }
     requires left { Designates graph.now pattern.now a }
     requires lead { (b : ℕ) → Contains bs.now b → SharesAtPlace graph.now pattern.now lead a b }
@@ -49,13 +49,13 @@ fn gather_literal(
     a: u32,
     l: u32,
     near: &mut Vec<u32>,
-) -> Result<(), AllocError>
+) -> Result<(), NoMemory>
     requires folds { Serves graph.now folds.now pattern.now }
     requires left { Designates graph.now pattern.now a }
     requires lead { IsLead pattern.now lead }
     requires row { Contains graph.now.rows (a ∷ lead.pred ∷ l ∷ []) }
     requires named { l < length graph.now.literal }
-    ensures { IfOk result (λ _. Gathered graph.now pattern.now a near.old.items near.new.items (λ b. IsLiteral graph.now l × Holds graph.now lead.folded lead.pred l b)) }
+    ensures { IfOk result (λ _. Gathered graph.now pattern.now a near.old.items near.new.items (λ b. IsLiteral graph.now l × Holds graph.now lead.folded b lead.pred l)) }
 {
     if graph.is_literal(l) {
         let bs = above(lead.holders(graph, folds, l), a);
@@ -72,7 +72,7 @@ fn gather_lead(
     lead: Lead,
     a: u32,
     near: &mut Vec<u32>,
-) -> Result<(), AllocError>
+) -> Result<(), NoMemory>
     requires folds { Serves graph.now folds.now pattern.now }
     requires left { Designates graph.now pattern.now a }
     requires lead { IsLead pattern.now lead }
@@ -91,7 +91,7 @@ fn gather_type(
     pattern: &Pattern,
     a: u32,
     near: &mut Vec<u32>,
-) -> Result<(), AllocError>
+) -> Result<(), NoMemory>
     requires folds { Serves graph.now folds.now pattern.now }
     requires left { Designates graph.now pattern.now a }
     ensures { IfOk result (λ _. Gathered graph.now pattern.now a near.old.items near.new.items (λ b. ⊤)) }
@@ -108,7 +108,7 @@ fn gather_key(
     pattern: &Pattern,
     a: u32,
     near: &mut Vec<u32>,
-) -> Result<(), AllocError>
+) -> Result<(), NoMemory>
     requires { Serves graph.now folds.now pattern.now }
     ensures { IfOk result (λ _. Gathered graph.now pattern.now a near.old.items near.new.items (λ b. ⊤)) }
 {
@@ -134,7 +134,7 @@ fn find(
     patterns: &[Pattern],
     a: u32,
     near: &mut Vec<u32>,
-) -> Result<(), AllocError>
+) -> Result<(), NoMemory>
     requires { (key : ℕ) (Q : Shape) → slice_get patterns.now key ≡ Some Q → Serves graph.now folds.now Q }
     ensures { IfOk result (λ _. Found graph.now patterns.now a (length patterns.now) near.new.items) }
 {
@@ -152,7 +152,7 @@ pub(crate) fn partners(
     patterns: &[Pattern],
     a: u32,
     near: &mut Vec<u32>,
-) -> Result<(), AllocError>
+) -> Result<(), NoMemory>
     requires { (key : ℕ) (Q : Shape) → slice_get patterns.now key ≡ Some Q → Serves graph.now folds.now Q }
     ensures { IfOk result (λ _. ArePartners graph.now patterns.now a near.new.items) }
 {

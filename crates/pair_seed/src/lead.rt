@@ -34,7 +34,7 @@ impl Lead {
         requires folds { self.folded ≡ true → IsFoldTable graph.now folds.now }
         requires named { l < length graph.now.literal }
         ensures ascending { IsStrictlyIncreasing result.now }
-        ensures exact { (b : ℕ) → Contains result.now b ↔ Holds graph.now self.folded self.pred l b }
+        ensures exact { (b : ℕ) → Contains result.now b ↔ Holds graph.now self.folded b self.pred l }
     {
         if self.folded {
             folds.find(graph.alike(l), self.pred)

@@ -21,7 +21,4 @@ mod share;
 mod stop;
 
 pub use candidates::seed;
-pub use stop::SeedStop;
-
-#[cfg(test)]
-mod tests;
+pub use stop::{SeedStop, TooManyPairs};

@@ -1,4 +1,4 @@
-//! The parts of a pattern.
+//! The slots and edges of a pattern by their places, with what a pattern keeps of them.
 
 ghost use Rattle.std.specs.Prelude.{◌≡◌, ◌<◌, Some, length, slice_get};
 

@@ -1,4 +1,4 @@
-//! Whether a key pairs two names.
+//! Whether a key pairs two names: by type, and edge by edge.
 
 ghost use Rattle.std.specs.Prelude.{◌≡◌, ◌≢◌, ◌<◌, ◌↔◌, ℕ, Contains, IsTrue, length, slice_index};
 ghost use Rattle.std.specs.List.Sorted.{IsStrictlyIncreasing};

@@ -1,35 +1,13 @@
-//! Why there are no pairs.
+//! Why `seed` gives no pairs: want of memory, or too many of them.
 
-use gk_base::NoMemory;
-use std::alloc::AllocError;
+use gk_base::Stop;
+
+/// There are more candidate pairs than the limit.
+#[derive(Clone, Copy, Debug, PartialEq, Eq)]
+pub struct TooManyPairs {
+    /// One more than the limit, however many there are.
+    pub found: u64,
+}
 
 /// Why `seed` gives no pairs.
-#[derive(Clone, Copy, Debug, PartialEq, Eq)]
-pub enum SeedStop {
-    /// No memory was to be had.
-    NoMemory,
-    /// There are more pairs than the limit. `found` is one more than the limit, however many there are.
-    TooManyPairs { found: u64 },
-}
-
-impl From<NoMemory> for SeedStop {
-    ghost use Rattle.std.specs.Prelude.{◌≡◌};
-    ghost use Rattle.pair_seed.specs.declared.stop.SeedStop.TheVariants as stop;
-
-    ghost from_gives = { λ _ e. e ≡ stop.NoMemory };
-
-    fn from(_: NoMemory) -> Self {
-        SeedStop::NoMemory
-    }
-}
-
-impl From<AllocError> for SeedStop {
-    ghost use Rattle.std.specs.Prelude.{◌≡◌};
-    ghost use Rattle.pair_seed.specs.declared.stop.SeedStop.TheVariants as stop;
-
-    ghost from_gives = { λ _ e. e ≡ stop.NoMemory };
-
-    fn from(_: AllocError) -> Self {
-        SeedStop::NoMemory
-    }
-}
+pub type SeedStop = Stop<TooManyPairs>;

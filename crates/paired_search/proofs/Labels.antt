@@ -4,7 +4,8 @@ use Rattle.std.specs.List.Sorted.{IsNonDecreasingBy}
 use Rattle.std.proofs.lemmas.Bool.{cond-true, cond-false, ne_eqb, cases_eq, cases_lt}
 use Rattle.std.proofs.Common.{inl, inr}
 use Rattle.chase_laws.specs.View.{label_in}
-use Rattle.paired_search.specs.Held.{Ascends, IsCountBelow}
+use Rattle.paired_search.specs.Held.{Ascends}
+use Rattle.paired_search.specs.Kept.{IsCountBelow}
 
 -- a name that does not stand there has no label
 pub label_none : (pairs : List (ℕ × ℕ)) (n : ℕ) → ((k : ℕ) (d : ℕ × ℕ) → k < length pairs → (get_or pairs k d).0 ≢ n) → label_in pairs n ≡ None

@@ -1,5 +1,5 @@
-pub mod BlockLaws
-pub mod Labels
-pub mod Moves
-pub mod PairLaws
-pub mod PartLaws
+mod BlockLaws
+mod Labels
+mod Moves
+mod PairLaws
+mod PartLaws

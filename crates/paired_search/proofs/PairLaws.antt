@@ -8,7 +8,7 @@ use Rattle.chase_laws.specs.declared.pattern.Edge.{Edge}
 use Rattle.chase_laws.specs.Shape.{Shape}
 use Rattle.chase_laws.specs.Graph.{NumberedGraph}
 use Rattle.chase_laws.specs.Valuation.{IsValuation, Coincide, IsMatch}
-use Rattle.paired_search.specs.Part.{IsPair, IsReady, EdgeHolds, Completes, AreTwins}
+use Rattle.paired_search.specs.Part.{IsPair, IsReady, EdgeHolds, AreCompletedBy, AreTwins}
 use Rattle.key_plan.specs.Route.{IsBlock}
 use Rattle.paired_search.proofs.BlockLaws.{block_part}
 use Rattle.chase_laws.specs.declared.pattern.Slot.{Slot}
@@ -49,8 +49,8 @@ module _ (G : NumberedGraph) (Q : Shape) (same : ℕ → ℕ → Bool) where
       }
 
   -- what completes two lists completes them with its next numbers
-  pub completes_next : (p q v w : List ℕ) → length q ≡ length p → length p < length Q.slots → Completes G Q same p q v w →
-      IsPair G Q same (p ++ slice_index v (length p) ∷ []) (q ++ slice_index w (length p) ∷ []) × Completes G Q same (p ++ slice_index v (length p) ∷ []) (q ++ slice_index w (length p) ∷ []) v w
+  pub completes_next : (p q v w : List ℕ) → length q ≡ length p → length p < length Q.slots → AreCompletedBy G Q same p q v w →
+      IsPair G Q same (p ++ slice_index v (length p) ∷ []) (q ++ slice_index w (length p) ∷ []) × AreCompletedBy G Q same (p ++ slice_index v (length p) ∷ []) (q ++ slice_index w (length p) ∷ []) v w
   completes_next p q v w as_long short c =
       let left : take (length p + 1) v ≡ p ++ slice_index v (length p) ∷ [] = front_next v p (omega (arith, c.left.one_each)) c.begins_left in
       let right : take (length p + 1) w ≡ q ++ slice_index w (length p) ∷ [] = subst (λ n. take (n + 1) w ≡ q ++ slice_index w n ∷ []) as_long (front_next w q (omega (arith, c.right.one_each)) c.begins_right) in
@@ -62,7 +62,7 @@ module _ (G : NumberedGraph) (Q : Shape) (same : ℕ → ℕ → Bool) where
       )
 
   -- and what completes the longer lists completes the shorter ones
-  pub completes_before : (p q v w : List ℕ) (m n : ℕ) → Completes G Q same (p ++ m ∷ []) (q ++ n ∷ []) v w → Completes G Q same p q v w
+  pub completes_before : (p q v w : List ℕ) (m n : ℕ) → AreCompletedBy G Q same (p ++ m ∷ []) (q ++ n ∷ []) v w → AreCompletedBy G Q same p q v w
   completes_before p q v w m n c = record {
     left = c.left;
     right = c.right;
@@ -74,7 +74,7 @@ module _ (G : NumberedGraph) (Q : Shape) (same : ℕ → ℕ → Bool) where
       shorter : (v p : List ℕ) (m : ℕ) → take (length (p ++ m ∷ [])) v ≡ p ++ m ∷ [] → take (length p) v ≡ p
       shorter v p m e = sym (take-take (length p) (length (p ++ m ∷ [])) v (omega (arith, length-append p (m ∷ [])))) ∙ ap (take (length p)) e ∙ take-append-le (length p) p (m ∷ []) (omega arith) ∙ take_all (length p) p (omega arith)
 
-  pub completes_whole : (p q : List ℕ) → IsReady Q → IsPair G Q same p q → length Q.slots ≤ length p → Completes G Q same p q p q
+  pub completes_whole : (p q : List ℕ) → IsReady Q → IsPair G Q same p q → length Q.slots ≤ length p → AreCompletedBy G Q same p q p q
   completes_whole p q ok pair long =
       let few = pair.left.few in
       record {
@@ -99,7 +99,7 @@ module _ (G : NumberedGraph) (Q : Shape) (same : ℕ → ℕ → Bool) where
       subst (λ x. AgreeAt G same (length p) slot x n) (last_at p m 0) (subst (λ y. AgreeAt G same (length p) slot (slice_index (p ++ m ∷ []) (length p)) y) e (pair.agree (length p) slot (omega arith) at))
 
   -- what two lists that complete these have next
-  pub next : (slot : Slot) (block : List Edge) (p q v w : List ℕ) → length q ≡ length p → length p < length Q.slots → slice_get Q.slots (length p) ≡ Some slot → IsBlock Q (length p) block → Completes G Q same p q v w →
+  pub next : (slot : Slot) (block : List Edge) (p q v w : List ℕ) → length q ≡ length p → length p < length Q.slots → slice_get Q.slots (length p) ≡ Some slot → IsBlock Q (length p) block → AreCompletedBy G Q same p q v w →
       Next G Q same slot block p q (slice_index v (length p)) (slice_index w (length p))
   next slot block p q v w as_long short at is c =
       let both = completes_next p q v w as_long short c in
@@ -117,9 +117,9 @@ module _ (G : NumberedGraph) (Q : Shape) (same : ℕ → ℕ → Bool) where
 
   -- one number more on the right
   pub none_more : (p q : List ℕ) (s m i : ℕ) (xs : List ℕ) → s ≡ length p → length q ≡ length p → length p < length Q.slots → i < length xs →
-      (IsPair G Q same (p ++ m ∷ []) (q ++ get_or xs i 0 ∷ []) → (v w : List ℕ) → Completes G Q same (p ++ m ∷ []) (q ++ get_or xs i 0 ∷ []) v w → ⊥) →
-      ((v w : List ℕ) → Completes G Q same p q v w → get_or v s 0 ≡ m → Contains (take i xs) (get_or w s 0) → ⊥) →
-      (v w : List ℕ) → Completes G Q same p q v w → get_or v s 0 ≡ m → Contains (take (i + 1) xs) (get_or w s 0) → ⊥
+      (IsPair G Q same (p ++ m ∷ []) (q ++ get_or xs i 0 ∷ []) → (v w : List ℕ) → AreCompletedBy G Q same (p ++ m ∷ []) (q ++ get_or xs i 0 ∷ []) v w → ⊥) →
+      ((v w : List ℕ) → AreCompletedBy G Q same p q v w → get_or v s 0 ≡ m → Contains (take i xs) (get_or w s 0) → ⊥) →
+      (v w : List ℕ) → AreCompletedBy G Q same p q v w → get_or v s 0 ≡ m → Contains (take (i + 1) xs) (get_or w s 0) → ⊥
   none_more p q s m i xs here as_long short in_i next before v w c at_m at_n = elim (contains_more xs i (get_or w s 0) in_i at_n) [
     | inl old ↦ before v w c at_m old
     | inr new ↦
@@ -127,29 +127,29 @@ module _ (G : NumberedGraph) (Q : Shape) (same : ℕ → ℕ → Bool) where
         let em : slice_index v (length p) ≡ m = ap (slice_index v) (sym here) ∙ at_m in
         let en : slice_index w (length p) ≡ get_or xs i 0 = ap (slice_index w) (sym here) ∙ sym new in
         next (subst (λ x. IsPair G Q same (p ++ x ∷ []) (q ++ get_or xs i 0 ∷ [])) em (subst (λ y. IsPair G Q same (p ++ slice_index v (length p) ∷ []) (q ++ y ∷ [])) en both.0)) v w
-        (subst (λ x. Completes G Q same (p ++ x ∷ []) (q ++ get_or xs i 0 ∷ []) v w) em (subst (λ y. Completes G Q same (p ++ slice_index v (length p) ∷ []) (q ++ y ∷ []) v w) en both.1)))
+        (subst (λ x. AreCompletedBy G Q same (p ++ x ∷ []) (q ++ get_or xs i 0 ∷ []) v w) em (subst (λ y. AreCompletedBy G Q same (p ++ slice_index v (length p) ∷ []) (q ++ y ∷ []) v w) en both.1)))
   ]
 
   -- one number more on the left
   pub none_left : (p q : List ℕ) (s i : ℕ) (xs : List ℕ) → i < length xs →
-      ((v w : List ℕ) → Completes G Q same p q v w → get_or v s 0 ≡ get_or xs i 0 → ⊥) →
-      ((v w : List ℕ) → Completes G Q same p q v w → Contains (take i xs) (get_or v s 0) → ⊥) →
-      (v w : List ℕ) → Completes G Q same p q v w → Contains (take (i + 1) xs) (get_or v s 0) → ⊥
+      ((v w : List ℕ) → AreCompletedBy G Q same p q v w → get_or v s 0 ≡ get_or xs i 0 → ⊥) →
+      ((v w : List ℕ) → AreCompletedBy G Q same p q v w → Contains (take i xs) (get_or v s 0) → ⊥) →
+      (v w : List ℕ) → AreCompletedBy G Q same p q v w → Contains (take (i + 1) xs) (get_or v s 0) → ⊥
   none_left p q s i xs in_i here before v w c at = elim (contains_more xs i (get_or v s 0) in_i at) [
     | inl old ↦ before v w c old
     | inr new ↦ here v w c (sym new)
   ]
 
   -- two lists that fit at a and b complete the lists of a and b
-  pub witness_completes : (a b : ℕ) (v w : List ℕ) → 0 < length Q.slots → IsMatch G Q same a b v w → IsPair G Q same (a ∷ []) (b ∷ []) × Completes G Q same (a ∷ []) (b ∷ []) v w
+  pub witness_completes : (a b : ℕ) (v w : List ℕ) → 0 < length Q.slots → IsMatch G Q same a b v w → IsPair G Q same (a ∷ []) (b ∷ []) × AreCompletedBy G Q same (a ∷ []) (b ∷ []) v w
   witness_completes a b v w short x =
-      let c : Completes G Q same [] [] v w = record { left = x.left; right = x.right; coincide = x.coincide; begins_left = refl; begins_right = refl } in
+      let c : AreCompletedBy G Q same [] [] v w = record { left = x.left; right = x.right; coincide = x.coincide; begins_left = refl; begins_right = refl } in
       let both = completes_next [] [] v w refl short c in (
         subst (λ m. IsPair G Q same (m ∷ []) (b ∷ [])) x.at_a (subst (λ n. IsPair G Q same (slice_index v 0 ∷ []) (n ∷ [])) x.at_b both.0),
-        subst (λ m. Completes G Q same (m ∷ []) (b ∷ []) v w) x.at_a (subst (λ n. Completes G Q same (slice_index v 0 ∷ []) (n ∷ []) v w) x.at_b both.1),
+        subst (λ m. AreCompletedBy G Q same (m ∷ []) (b ∷ []) v w) x.at_a (subst (λ n. AreCompletedBy G Q same (slice_index v 0 ∷ []) (n ∷ []) v w) x.at_b both.1),
       )
 
-  pub completes_witness : (a b : ℕ) (v w : List ℕ) → Completes G Q same (a ∷ []) (b ∷ []) v w → IsMatch G Q same a b v w
+  pub completes_witness : (a b : ℕ) (v w : List ℕ) → AreCompletedBy G Q same (a ∷ []) (b ∷ []) v w → IsMatch G Q same a b v w
   completes_witness a b v w c = record { left = c.left; right = c.right; coincide = c.coincide; at_a = first v a c.begins_left; at_b = first w b c.begins_right }
     where
       first : (v : List ℕ) (a : ℕ) → take 1 v ≡ a ∷ [] → slice_index v 0 ≡ a

@@ -1,3 +1,6 @@
+-- what callers of this crate read
 pub mod Held
-pub mod Part
 pub mod Plans
+-- inner invariants and words of the proofs
+pub mod Kept
+pub mod Part

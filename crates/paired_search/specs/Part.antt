@@ -25,8 +25,8 @@ pub record IsPair (G : NumberedGraph) (Q : Shape) (same : ℕ → ℕ → Bool) 
   pub as_long : length q ≡ length p
   pub agree : (s : ℕ) (slot : Slot) → s < length p → slice_get Q.slots s ≡ Some slot → AgreeAt G same s slot (slice_index p s) (slice_index q s)
 
--- two valuations that coincide and begin with these lists
-pub record Completes (G : NumberedGraph) (Q : Shape) (same : ℕ → ℕ → Bool) (p q v w : List ℕ) : Type 0 where
+-- the lists p and q are completed by the valuations v and w, which coincide and begin with them
+pub record AreCompletedBy (G : NumberedGraph) (Q : Shape) (same : ℕ → ℕ → Bool) (p q v w : List ℕ) : Type 0 where
   pub left : IsValuation G Q v
   pub right : IsValuation G Q w
   pub coincide : Coincide G Q same v w

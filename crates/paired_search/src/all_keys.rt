@@ -1,4 +1,4 @@
-//! The search over all keys.
+//! The search over all keys, and the search for one of them.
 
 ghost use Rattle.std.specs.Prelude.{◌≡◌, ◌<◌, ◌≤◌, ◌^◌, ℕ, List, Some, IfSome, IfNone, length, slice_get, slice_index};
 ghost use Rattle.chase_laws.specs.Shape.{Shape};
@@ -78,11 +78,10 @@ fn search_key(
     ensures found { IfSome result (λ f. IsMatch graph.now pattern.now (same_by view.now.pairs) a b f.0 f.1) }
     ensures none { IfNone result ((v w : List ℕ) → ¬ (IsMatch graph.now pattern.now (same_by view.now.pairs) a b v w)) }
 {
+    // For the proof alone: the pattern is valid.
     let _ = pattern.slots();
-    match search_placed(graph, plan, view, a, b) {
-        None => None,
-        Some(placed) => Some((by_slots(plan, &placed.0), by_slots(plan, &placed.1))),
-    }
+    let placed = search_placed(graph, plan, view, a, b)?;
+    Some((by_slots(plan, &placed.0), by_slots(plan, &placed.1)))
 }
 
 /// Looks for a key with two valuations at `a` and `b` that coincide up to the view, and gives the first key that has

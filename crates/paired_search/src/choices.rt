@@ -1,4 +1,4 @@
-//! Which names may come next.
+//! Which names may come next at a slot, on the left and on the right.
 
 ghost use Rattle.std.specs.Prelude.{◌≡◌, ◌≢◌, ◌<◌, ◌++◌, [], ◌∷◌, ◌⊎◌, ℕ, All, Contains, Some, length, slice_index, slice_index_or};
 ghost use Rattle.chase_laws.specs.declared.pattern.Edge.{Edge};

@@ -3,7 +3,7 @@
 ghost use Rattle.std.specs.Prelude.{◌≡◌, ◌<◌, ◌++◌, [], ◌∷◌, ◌↔◌, List, ℕ, IsTrue, Some, IfSome, IfNone, length, slice_get};
 ghost use Rattle.chase_laws.specs.View.{same_by};
 ghost use Rattle.key_plan.specs.Route.{IsBlock};
-ghost use Rattle.paired_search.specs.Part.{IsPart, IsPair, IsReady, Completes};
+ghost use Rattle.paired_search.specs.Part.{IsPart, IsPair, IsReady, AreCompletedBy};
 
 use crate::View;
 use crate::choices::{choices, constant_of, firsts, seconds};
@@ -48,8 +48,8 @@ pub fn extend(
     requires ready { IsReady plan.now.shape }
     requires begun { 0 < length left }
     requires pair { IsPair graph.now plan.now.shape (same_by view.now.pairs) left right }
-    ensures found { IfSome result (λ f. Completes graph.now plan.now.shape (same_by view.now.pairs) left right f.0 f.1) }
-    ensures none { IfNone result ((v w : List ℕ) → ¬ (Completes graph.now plan.now.shape (same_by view.now.pairs) left right v w)) }
+    ensures found { IfSome result (λ f. AreCompletedBy graph.now plan.now.shape (same_by view.now.pairs) left right f.0 f.1) }
+    ensures none { IfNone result ((v w : List ℕ) → ¬ (AreCompletedBy graph.now plan.now.shape (same_by view.now.pairs) left right v w)) }
 {
     let s = left.len();
     if s >= plan.len() {

@@ -1,4 +1,4 @@
-//! What one more name has to be.
+//! What one more name has to be, for a list that is part of a valuation to stay so.
 
 ghost use Rattle.std.specs.Prelude.{◌≡◌, ◌≢◌, ◌<◌, ◌++◌, [], ◌∷◌, ◌↔◌, ℕ, All, IsTrue, Some, length, slice_get, slice_index};
 ghost use Rattle.chase_laws.specs.Graph.{IsLiteral, AreAlike};
@@ -104,6 +104,7 @@ pub fn goes_on(
     requires few { length places.now < 16 }
     ensures { IsTrue result ↔ IsPart graph.now plan.now.shape (places.now ++ m ∷ []) }
 {
+    // Only the contract speaks of the plan: its pattern is the one that the list is part of a valuation of.
     let _ = plan;
     if !is_new(places, m) || !fits_slot(graph, slot, m) {
         return false;

@@ -21,6 +21,3 @@ mod view;
 pub use all_keys::{Finding, search};
 pub use planning::plan_all;
 pub use view::View;
-
-#[cfg(test)]
-mod tests;

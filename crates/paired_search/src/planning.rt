@@ -1,4 +1,4 @@
-//! The plans of all keys.
+//! The plans of all keys, in the order of their patterns.
 
 ghost use Rattle.std.specs.Prelude.{IfOk};
 ghost use Rattle.paired_search.specs.Plans.{ArePlans};

@@ -1,8 +1,9 @@
-//! Names with their labels.
+//! A view: names with the labels that they had, and the look-up of a name in it.
 
 ghost use Rattle.std.specs.Prelude.{◌≡◌, ◌<◌, ◌≤◌, ◌++◌, [], ◌∷◌, ℕ, All, IfOk, Some, length, slice_get, slice_index};
 ghost use Rattle.chase_laws.specs.View.{label_in, same_by};
-ghost use Rattle.paired_search.specs.Held.{Ascends, IsCountBelow};
+ghost use Rattle.paired_search.specs.Held.{Ascends};
+ghost use Rattle.paired_search.specs.Kept.{IsCountBelow};
 
 use gk_base::NoMemory;
 use std::alloc::Global;
@@ -19,7 +20,8 @@ pub struct View {
 
 impl Model for View {
     ghost use Rattle.std.specs.Prelude.{length, vec_capacity, ◌≤◌};
-    ghost use Rattle.paired_search.specs.Held.{Held, Ascends, IsView};
+    ghost use Rattle.paired_search.specs.Held.{Held, Ascends};
+    ghost use Rattle.paired_search.specs.Kept.{IsView};
 
     ghost Value = { Held };
 

@@ -3,7 +3,8 @@ use Rattle.std.proofs.Common.{List, ℕ, ◌≡◌, ◌<◌, ◌≤◌, ◌+◌,
 use Rattle.std.proofs.lemmas.Bool.{cases_lt}
 use Rattle.std.proofs.lemmas.List.{get_or-take, get_or-drop, length-take-le, length-drop, get_or_default}
 use Rattle.std.specs.List.Sorted.{IsStrictlyIncreasing, IsNonDecreasing}
-use Rattle.typed_graph.specs.Table.{Table, TableHas, IsTable}
+use Rattle.typed_graph.specs.Table.{Table, TableHas}
+use Rattle.typed_graph.specs.Blocks.{IsTable}
 
 pub part_at : (xs : List ℕ) (from count k d : ℕ) → k < count → get_or (take count (drop from xs)) k d ≡ get_or xs (from + k) d
 part_at xs from count k d h = get_or-take count (drop from xs) k d h ∙ get_or-drop from xs k d

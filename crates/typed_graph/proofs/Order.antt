@@ -9,7 +9,7 @@ use Rattle.std.specs.Cmp.Lexicographic.{slice_cmp, pointwise}
 use Rattle.std.specs.List.Sorted.{IsStrictlySortedBy}
 use Rattle.std.proofs.lemmas.Map.Keys.{Less-from_sorted}
 use Rattle.std.proofs.lemmas.List.{get_or-map, length-map, get_or_default}
-use Rattle.typed_graph.specs.Table.{row_at, Before, RowsRise, turned}
+use Rattle.typed_graph.specs.Blocks.{row_at, Before, RowsRise, turned}
 use Rattle.typed_graph.proofs.Made.{three}
 
 -- one column decides

@@ -1,3 +1,5 @@
+-- what callers of this crate read
 pub mod Table
+-- inner invariants and words of the proofs
 pub mod Indexed
-pub mod Folding
+pub mod Blocks

@@ -1,4 +1,4 @@
-//! Look-ups in ascending numbers.
+//! Look-ups in ascending numbers, by binary searches.
 
 ghost use Rattle.std.specs.Prelude.{◌≡◌, ◌<◌, ◌≤◌, ◌-◌, ◌↔◌, ℕ, Contains, IsTrue, length, take, drop, slice_index};
 ghost use Rattle.std.specs.List.Sorted.{IsStrictlyIncreasing, IsNonDecreasing};

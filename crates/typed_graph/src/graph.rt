@@ -1,4 +1,4 @@
-//! A graph in numbers.
+//! A graph in numbers: what it is built from, and the look-ups in it.
 
 ghost use Rattle.std.specs.Prelude.{◌≡◌, ◌<◌, ◌≤◌, ◌^◌, List, ◌↔◌, ℕ, All, Contains, IfOk, IsTrue, length, slice_index};
 ghost use Rattle.std.specs.Option.{ForSome};

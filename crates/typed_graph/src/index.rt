@@ -1,32 +1,15 @@
-//! Sorted rows as columns, with an offset for each first number. A row takes 8 bytes and a first number 8.
+//! One sorted order of rows, kept as columns with an offset for each first number. A row takes 8 bytes and a first number 8.
 
 ghost use Rattle.std.specs.Prelude.{◌≡◌, ◌<◌, ◌≤◌, ◌+◌, ◌-◌, ◌↔◌, ℕ, [], ◌∷◌, All, Contains, IfOk, IsTrue, length, take, drop, map, slice_index};
 ghost use Rattle.std.specs.List.Sorted.{IsStrictlyIncreasing, IsNonDecreasing};
-ghost use Rattle.typed_graph.specs.Table.{TableHas, IsTable, RowsRise, IsStart, AreRowStarts};
+ghost use Rattle.typed_graph.specs.Table.{TableHas};
+ghost use Rattle.typed_graph.specs.Blocks.{RowsRise, IsStart, AreRowStarts};
 
 use crate::ascending::{cut, lower, upper};
 use crate::rows::sorted;
 use gk_base::NoMemory;
-use std::alloc::{AllocError, Global};
+use std::alloc::Global;
 use std::marker::Model;
-
-/// The last numbers of the rows that begin with n and p.
-fn find_parts<'a>(starts: &[usize], middles: &[u32], lasts: &'a [u32], n: u32, p: u32) -> &'a [u32]
-    requires { IsTable (record { starts = starts.now; middles = middles.now; lasts = lasts.now }) }
-    ensures ascending { IsStrictlyIncreasing result.now }
-    ensures exact { (c : ℕ) → Contains result.now c ↔ TableHas (record { starts = starts.now; middles = middles.now; lasts = lasts.now }) n p c }
-{
-    let at = n as usize;
-    if at + 1 >= starts.len() {
-        return &lasts[0..0];
-    }
-    let from = starts[at];
-    let to = starts[at + 1];
-    let block = &middles[from..to];
-    let low = lower(block, p);
-    let high = upper(block, p);
-    cut(lasts, from + low, from + high)
-}
 
 /// Rows of three numbers in ascending order, found by their first two. Contracts see it as a table of columns, and ask
 /// only whether a row stands there.
@@ -38,7 +21,8 @@ pub struct Index {
 }
 
 impl Model for Index {
-    ghost use Rattle.typed_graph.specs.Table.{Table, IsTable};
+    ghost use Rattle.typed_graph.specs.Table.{Table};
+    ghost use Rattle.typed_graph.specs.Blocks.{IsTable};
 
     ghost Value = { Table };
 
@@ -55,7 +39,7 @@ impl Index {
         ensures { IfOk result (λ t. (n p c : ℕ) → TableHas t n p c ↔ Contains rows.items (n ∷ p ∷ c ∷ [])) }
     {
         let rows = sorted(rows);
-        Ok(Index::from_sorted(alloc, &rows, names)?)
+        Index::from_sorted(alloc, &rows, names)
     }
 
     /// A table of ascending rows.
@@ -63,7 +47,7 @@ impl Index {
         alloc: Global,
         rows: &[[u32; 3]],
         names: u32,
-    ) -> Result<Index, AllocError>
+    ) -> Result<Index, NoMemory>
         requires rise { RowsRise rows.now }
         requires named { All (λ row. slice_index row 0 < names) rows.now }
         ensures { IfOk result (λ t. (n p c : ℕ) → TableHas t n p c ↔ Contains rows.now (n ∷ p ∷ c ∷ [])) }
@@ -83,7 +67,16 @@ impl Index {
         ensures ascending { IsStrictlyIncreasing result.now }
         ensures exact { (c : ℕ) → Contains result.now c ↔ TableHas self.now n p c }
     {
-        find_parts(&self.starts, &self.middles, &self.lasts, n, p)
+        let at = n as usize;
+        if at + 1 >= self.starts.len() {
+            return &self.lasts[0..0];
+        }
+        let from = self.starts[at];
+        let to = self.starts[at + 1];
+        let block = &self.middles[from..to];
+        let low = lower(block, p);
+        let high = upper(block, p);
+        cut(&self.lasts, from + low, from + high)
     }
 
     /// How many rows begin with `n`: for the choice of the shorter way.
@@ -119,7 +112,7 @@ fn block_end(rows: &[[u32; 3]], n: u32, start: usize) -> usize
 }
 
 /// The place where the rows of each first number begin.
-fn starts_of(alloc: Global, rows: &[[u32; 3]], names: u32) -> Result<Vec<usize>, AllocError>
+fn starts_of(alloc: Global, rows: &[[u32; 3]], names: u32) -> Result<Vec<usize>, NoMemory>
     requires rise { RowsRise rows.now }
     requires named { All (λ row. slice_index row 0 < names) rows.now }
     ensures { IfOk result (λ v. AreRowStarts rows.now names v.items) }
@@ -135,7 +128,7 @@ fn starts_of(alloc: Global, rows: &[[u32; 3]], names: u32) -> Result<Vec<usize>,
 }
 
 /// One column of the rows.
-fn column(alloc: Global, rows: &[[u32; 3]], at: usize) -> Result<Vec<u32>, AllocError>
+fn column(alloc: Global, rows: &[[u32; 3]], at: usize) -> Result<Vec<u32>, NoMemory>
     requires { at < 3 }
     ensures { IfOk result (λ v. v.items ≡ map (λ row. slice_index row at) rows.now) }
 {

@@ -7,18 +7,12 @@
 //! - `index`: one sorted order of rows
 //! - `ascending`: look-ups in ascending numbers
 //! - `rows`: lists of rows
-//! - `checks`: the test of what a graph is built from
 #![tactic(auto)]
 
 pub mod ascending;
-mod checks;
 mod graph;
 mod index;
 mod rows;
 
-pub use checks::can_build;
 pub use graph::Graph;
 pub use index::Index;
-
-#[cfg(test)]
-mod tests;

@@ -1,14 +1,15 @@
-//! Lists of rows.
+//! Lists of rows: sorted, and turned round.
 
 ghost use Rattle.std.specs.Prelude.{◌≡◌, List, ◌↔◌, ℕ, All, Contains, IfOk, length, map};
 ghost use Rattle.std.specs.Ordering.{nat_cmp};
 ghost use Rattle.std.specs.Cmp.Lexicographic.{slice_cmp};
 ghost use Rattle.std.specs.List.Sorted.{IsStrictlySortedBy};
-ghost use Rattle.typed_graph.specs.Table.{turned};
+ghost use Rattle.typed_graph.specs.Blocks.{turned};
 
-use std::alloc::{AllocError, Global};
+use gk_base::NoMemory;
+use std::alloc::Global;
 
-/// A row has three numbers.
+/// A fact for proofs, with an empty body: each row has three numbers.
 fn three_each(rows: &[[u32; 3]])
     ensures { All (λ row. length row ≡ 3) rows.now }
 {
@@ -29,7 +30,7 @@ pub(crate) fn sorted(rows: Vec<[u32; 3]>) -> Vec<[u32; 3]>
 }
 
 /// The rows with the object first and the subject last.
-pub(crate) fn turn(alloc: Global, rows: &[[u32; 3]]) -> Result<Vec<[u32; 3]>, AllocError>
+pub(crate) fn turn(alloc: Global, rows: &[[u32; 3]]) -> Result<Vec<[u32; 3]>, NoMemory>
     ensures { IfOk result (λ v. v.items ≡ map turned rows.now) }
 {
     let mut out = Vec::with_capacity(alloc, rows.len())?;

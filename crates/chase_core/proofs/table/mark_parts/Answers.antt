@@ -2,7 +2,7 @@
 use Rattle.std.proofs.Common.{sym, ◌∙◌, ap, subst, slice_set}
 use Rattle.list_pool.specs.Pool.{Lists, list_at, without}
 use Rattle.chase_laws.specs.declared.pair_state.PairState.TheVariants as state
-use Rattle.chase_core.specs.Table.{AreStandings}
+use Rattle.chase_core.specs.Inner.{AreStandings}
 use Rattle.chase_core.proofs.Tables.{listed, mark_ready, mark_other, ready_stands, other_stands_not, without_none, stands_read, stands_not}
 use Rattle.chase_core.proofs.table.mark_parts.Goals as goal
 use Rattle.chase_core.proofs.table.mark_parts.Goals.{in-Ready, in_default}

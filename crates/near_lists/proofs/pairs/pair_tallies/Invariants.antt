@@ -1,5 +1,5 @@
 use Rattle.std.proofs.Common.{ℕ, ◌≡◌, ◌<◌, length, map, get_or}
-use Rattle.near_lists.specs.Turning.{ends_of, owners_below}
+use Rattle.near_lists.specs.Owners.{ends_of, owners_below}
 use Rattle.near_lists.proofs.pairs.pair_tallies.Given as goal
 
 abbrev pub invariant-loop-a : goal.invariant-loop-a

@@ -2,7 +2,8 @@ use Rattle.std.proofs.Common.{List, ℕ, Contains, All, ◌≡◌, ◌<◌, ◌�
 use Rattle.std.specs.List.{concat, sum}
 use Rattle.std.specs.List.Sorted.{IsStrictlyIncreasing}
 use Rattle.list_pool.specs.Pool.{list_at}
-use Rattle.near_lists.specs.Turning.{HasEnd, ends_of, owners_of}
+use Rattle.near_lists.specs.Turning.{HasEnd}
+use Rattle.near_lists.specs.Owners.{ends_of, owners_of}
 use Rattle.near_lists.proofs.Counted.{sum_tallies}
 use Rattle.near_lists.proofs.Owners.{All-concat, length_all_owners, Contains_all_owners, owners_rise}
 use Rattle.near_lists.proofs.Ended.{both_all, both_named, ends_exact, ends_rise, length-concat_ends}

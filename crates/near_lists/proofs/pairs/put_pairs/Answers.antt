@@ -1,8 +1,8 @@
-use Rattle.std.proofs.Common.{[], ◌∷◌, ◌++◌, ◌≡◌, ◌+◌, ap, ap₂, sym, ◌∙◌, length, map, replicate, arith, add-one}
+use Rattle.std.proofs.Common.{[], ◌∷◌, ◌++◌, ◌≡◌, ap, ap₂, sym, ◌∙◌, map, replicate, arith, add-one}
 use Rattle.std.proofs.lemmas.List.{length-map}
 use Rattle.list_pool.specs.Pool.{list_at}
 use Rattle.list_pool.specs.Counts.{times}
-use Rattle.near_lists.specs.Turning.{ends_of, owners_below}
+use Rattle.near_lists.specs.Owners.{ends_of, owners_below}
 use Rattle.near_lists.proofs.Owners.{owners_fit}
 use Rattle.near_lists.proofs.Ended.{at, list_at-ends}
 use Rattle.near_lists.proofs.pairs.put_pairs.Goals as goal

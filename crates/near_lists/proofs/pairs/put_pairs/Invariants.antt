@@ -1,6 +1,6 @@
 use Rattle.std.proofs.Common.{ℕ, ◌≡◌, ◌<◌, length, map}
 use Rattle.list_pool.specs.Pool.{list_at}
-use Rattle.near_lists.specs.Turning.{ends_of, owners_below}
+use Rattle.near_lists.specs.Owners.{ends_of, owners_below}
 use Rattle.near_lists.proofs.pairs.put_pairs.Given as goal
 
 abbrev pub invariant-loop-place : goal.invariant-loop-place

@@ -1,7 +1,7 @@
 -- One row more.
 use Rattle.std.proofs.Common.{ℕ, List, [], ◌∷◌, ◌≡◌, ◌<◌, length, get_or, slice_index, sym, ◌∙◌, true≢false, take_all, subst, arith}
 use Rattle.std.proofs.lemmas.List.Elements.{All-push}
-use Rattle.typed_graph.proofs.Made.{three}
+use Rattle.typed_graph.proofs.CallerLemmas.{three}
 use Rattle.pair_seed.proofs.Keys.{AreFolded, folded_push, folded_skip, literal_named, folded_all}
 use Rattle.pair_seed.proofs.folds.folded_rows.Goals as goal
 use Rattle.pair_seed.proofs.folds.folded_rows.Goals.{then-is_literal+in_ok-push, else-is_literal}

@@ -1,5 +1,5 @@
 use Rattle.std.proofs.Common.{ℕ, IsTrue, ◌↔◌, subst}
-use Rattle.typed_graph.proofs.Order.{chain}
+use Rattle.typed_graph.proofs.CallerLemmas.{chain}
 use Rattle.pair_seed.specs.Folds.{HasAlike}
 use Rattle.pair_seed.proofs.share.is_folded_in.Goals as goal
 

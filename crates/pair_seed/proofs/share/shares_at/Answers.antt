@@ -1,7 +1,7 @@
 use Rattle.std.proofs.Common.{Some, ap, ◌∙◌}
 use Rattle.chase_laws.specs.declared.pattern.Slot.{Slot}
 use Rattle.chase_laws.specs.declared.pattern.Slot.TheVariants.{Value, Folded}
-use Rattle.typed_graph.proofs.Order.{chain}
+use Rattle.typed_graph.proofs.CallerLemmas.{chain}
 use Rattle.pair_seed.proofs.Keys.{shares_slot}
 use Rattle.pair_seed.proofs.share.shares_at.Goals as goal
 

@@ -1,4 +1,7 @@
 -- The lists in the order of the plan are those of the pattern under other numbers.
+use Rattle.std.proofs.Common.{List, ℕ, subst, sym}
+use Rattle.std.specs.Prelude.{IfNone}
+use Rattle.chase_laws.specs.Valuation.{IsMatch}
 use Rattle.chase_laws.specs.View.{same_by}
 use Rattle.paired_search.proofs.Moves.{match_there, match_back, ready, begins}
 use Rattle.paired_search.proofs.all_keys.search_key.Goals as goal
@@ -9,11 +12,12 @@ search_placed-requires-clause-ready c = ready c.args.pattern.now c.args.plan.now
 pub search_placed-requires-clause-begins : goal.search_placed-requires-clause-begins
 search_placed-requires-clause-begins c = begins c.args.pattern.now c.args.plan.now c.slots.ensures.facts c.requires
 
-pub returns-in-None-clause-none : goal.returns-in-None-clause-none
-returns-in-None-clause-none c = λ v w x.
+pub returns-in_err-placed-clause-none : goal.returns-in_err-placed-clause-none
+returns-in_err-placed-clause-none c =
+    subst (λ o. IfNone o ((v w : List ℕ) → ¬ (IsMatch c.args.graph.now c.args.pattern.now (same_by c.args.view.now.pairs) c.args.a c.args.b v w))) (sym c.from_residual.ensures) (λ v w x.
     let back = match_back c.args.graph.now c.args.pattern.now c.args.plan.now (same_by c.args.view.now.pairs) c.args.a c.args.b v w c.slots.ensures.facts c.requires x in
-    c.in-None.ensures.none back.0 back.1 back.2
+    c.in_err-placed.ensures.none back.0 back.1 back.2)
 
-pub returns-in-Some-clause-found : goal.returns-in-Some-clause-found
-returns-in-Some-clause-found c =
-    match_there c.args.graph.now c.args.pattern.now c.args.plan.now (same_by c.args.view.now.pairs) c.args.a c.args.b c.in-Some.placed.0 c.in-Some.placed.1 c.by_slots.result c.by_slots-in-Some.result c.slots.ensures.facts c.requires c.by_slots.ensures c.by_slots-in-Some.ensures c.in-Some.ensures.found
+pub returns-clause-found : goal.returns-clause-found
+returns-clause-found c =
+    match_there c.args.graph.now c.args.pattern.now c.args.plan.now (same_by c.args.view.now.pairs) c.args.a c.args.b c.in_ok-placed.placed.0 c.in_ok-placed.placed.1 c.by_slots.result c.by_slots-2.result c.slots.ensures.facts c.requires c.by_slots.ensures c.by_slots-2.ensures c.in_ok-placed.ensures.found

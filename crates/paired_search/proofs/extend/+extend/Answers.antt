@@ -4,7 +4,7 @@ use Rattle.std.proofs.lemmas.List.{take_all}
 use Rattle.std.proofs.Common.{Some, slice_get}
 use Rattle.key_plan.specs.Route.{IsBlock}
 use Rattle.chase_laws.specs.View.{same_by}
-use Rattle.paired_search.specs.Part.{IsPart, AreTwins, Completes}
+use Rattle.paired_search.specs.Part.{IsPart, AreTwins, AreCompletedBy}
 use Rattle.paired_search.proofs.PairLaws.{completes_before, next, none_more, none_left}
 use Rattle.paired_search.proofs.extend.+extend.Goals as goal
 use Rattle.paired_search.proofs.extend.+extend.Goals.{then-joins+in_default, else-joins, then-goes_on+else-loop-n-test, else-goes_on}
@@ -18,8 +18,8 @@ returns-in-Some-clause-found t c =
     let m = get_or c.firsts-tried.result.now c.loop-m.m-index 0 in
     let n = get_or c.seconds-partners.result.now c.loop-n.n-index 0 in
     completes_before G P same c.args.left c.args.right f.0 f.1 m n
-    (subst (λ (p : List ℕ). Completes G P same p (c.args.right ++ n ∷ []) f.0 f.1) c.push.ensures
-    (subst (λ (q : List ℕ). Completes G P same c.push.new.self q f.0 f.1) c.push-then-joins.ensures c.in-Some.ensures.found))
+    (subst (λ (p : List ℕ). AreCompletedBy G P same p (c.args.right ++ n ∷ []) f.0 f.1) c.push.ensures
+    (subst (λ (q : List ℕ). AreCompletedBy G P same c.push.new.self q f.0 f.1) c.push-then-joins.ensures c.in-Some.ensures.found))
 
 pub loop-n-preserved : goal.loop-n-preserved
 loop-n-preserved t c =
@@ -34,8 +34,8 @@ loop-n-preserved t c =
     none_more G P same p q c.len-s.result m c.loop-n.n-index c.seconds-partners.result.now c.len-s.ensures.length c.requires.pair.as_long short c.loop-n-test.true
     (elim c.if-joins.branch [
       | then-joins+in_default w ↦ λ pair v u d. w.in_default.ensures.none v u
-          (subst (λ (x : List ℕ). Completes G P same x w.push-then-joins.new.self v u) (sym c.push.ensures)
-          (subst (λ (y : List ℕ). Completes G P same (p ++ m ∷ []) y v u) (sym w.push-then-joins.ensures) d))
+          (subst (λ (x : List ℕ). AreCompletedBy G P same x w.push-then-joins.new.self v u) (sym c.push.ensures)
+          (subst (λ (y : List ℕ). AreCompletedBy G P same (p ++ m ∷ []) y v u) (sym w.push-then-joins.ensures) d))
       | else-joins w ↦ λ pair v u d. absurd (true≢false (sym (c.joins.ensures.1 pair) ∙ w.if-joins.false))
     ])
     c.loop-n.invariant
@@ -51,7 +51,7 @@ loop-m-preserved t c =
     let m = get_or tried c.loop-m.m-index 0 in
     let here = c.len-s.ensures.length in
     let short : length p < length P.slots = omega (arith, c.if-s-len.false, c.len.ensures, c.len-s.ensures.length) in
-    let more = λ (v w : List ℕ) (d : Completes G P same p q v w). next G P same c.slot-slot.result c.block-block.result.now p q v w c.requires.pair.as_long short (subst (λ k. slice_get P.slots k ≡ Some c.slot-slot.result) here c.slot-slot.ensures) (subst (λ k. IsBlock P k c.block-block.result.now) here c.block-block.ensures) d in
+    let more = λ (v w : List ℕ) (d : AreCompletedBy G P same p q v w). next G P same c.slot-slot.result c.block-block.result.now p q v w c.requires.pair.as_long short (subst (λ k. slice_get P.slots k ≡ Some c.slot-slot.result) here c.slot-slot.ensures) (subst (λ k. IsBlock P k c.block-block.result.now) here c.block-block.ensures) d in
     none_left G P same p q c.len-s.result c.loop-m.m-index tried c.loop-m-test.true
     (λ v w d at.
     let x = more v w d in

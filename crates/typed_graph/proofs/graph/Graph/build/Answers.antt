@@ -1,6 +1,6 @@
 -- The two tables have the rows.
 use Rattle.std.proofs.Common.{◌≡◌, map, ◌∙◌, ap, arith}
-use Rattle.typed_graph.specs.Table.{turned}
+use Rattle.typed_graph.specs.Blocks.{turned}
 use Rattle.typed_graph.proofs.Order.{all_named, firsts_named, turned_firsts, has_turned, rows_rise, chain}
 use Rattle.typed_graph.proofs.graph.Graph.build.Goals as goal
 

@@ -1,4 +1,5 @@
 use Rattle.std.proofs.Common.{[], ◌∷◌}
+use Rattle.std.proofs.lemmas.Result.{IfOk-weaker}
 use Rattle.typed_graph.proofs.Order.{rows_rise, firsts_kept, chain}
 use Rattle.typed_graph.proofs.index.Index.build.Goals as goal
 
@@ -9,4 +10,5 @@ pub from_sorted-requires-clause-named : goal.from_sorted-requires-clause-named
 from_sorted-requires-clause-named c = rw c.deref.ensures.value (firsts_kept _ _ c.args.names c.sorted-rows.ensures.same c.requires)
 
 pub returns : goal.returns
-returns c = λ n p m. chain _ _ _ (rw c.deref.ensures.value at (c.in_ok-from_sorted.ensures n p m)) (c.sorted-rows.ensures.same (n ∷ p ∷ m ∷ []))
+returns c =
+    IfOk-weaker c.from_sorted.result _ _ (λ t made n p m. chain _ _ _ (rw c.deref.ensures.value at (made n p m)) (c.sorted-rows.ensures.same (n ∷ p ∷ m ∷ []))) c.from_sorted.ensures
