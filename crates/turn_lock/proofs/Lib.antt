@@ -1,6 +1,6 @@
-pub mod Sums
-pub mod Knowing
-pub mod Calling
-pub mod Keeps
-pub mod Rows
-pub mod Gathering
+mod Sums
+mod Knowing
+mod Calling
+mod Keeps
+mod Rows
+mod Gathering

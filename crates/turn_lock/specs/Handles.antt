@@ -66,8 +66,8 @@ module _ {T B I : Type 0} where
   opened lock = lock.table.shared.key.value.value
 
   -- the number of its entries then
-  abbrev pub opening : (T → List I) → TurnLock T B I → ℕ
-  opening entries lock = length (entries (opened lock))
+  abbrev pub entries_at_opening : (T → List I) → TurnLock T B I → ℕ
+  entries_at_opening entries lock = length (entries (opened lock))
 
   -- pass k of a lock that was made with x, before it has done anything
   pub record IsNew (base : T → B) (entries : T → List I) (x : T) (k : ℕ) (p : Pass T B I) : Type 0 where

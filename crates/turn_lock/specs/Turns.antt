@@ -12,11 +12,13 @@ use Rattle.turn_lock.specs.declared.view.Stage.TheVariants.{Idle, Waiting, Insid
 use Rattle.turn_lock.specs.Lists.{total, occurrences, places, below, StartsWith}
 use Rattle.turn_lock.specs.Serving.{Shows}
 
+-- the ticket with which a seat waits, or has the turn
 abbrev pub HasTicket : ℕ → Stage → Type 0
 HasTicket t Idle = ⊥
 HasTicket t (Waiting u) = u ≡ t
 HasTicket t (Inside u) = u ≡ t
 
+-- how many tickets a seat at this stage has
 abbrev pub tickets : Stage → ℕ
 tickets Idle = 0
 tickets (Waiting t) = 1
@@ -36,10 +38,12 @@ module _ {B I : Type 0} where
     pub begun : StartsWith log k.seen
     pub risen : k.floor ≤ length log
 
+  -- the same of each of several seats
   abbrev pub AreRight : B → List I → List (Known B I) → Type 0
   AreRight b log [] = Unit {0}
   AreRight b log (k ∷ ks) = IsRight b log k × AreRight b log ks
 
+  -- how many tickets a seat has
   abbrev pub out : View B I → ℕ
   out v = tickets v.stage
 
@@ -47,6 +51,7 @@ module _ {B I : Type 0} where
   abbrev pub claims : ℕ → View B I → ℕ
   claims x v = occurrences x v.own.mine + total (λ k. occurrences x k.mine) v.joined
 
+  -- what a seat knows is right, and so is what those joined into it knew; a seat without a part has and knows nothing
   pub record Knows (b : B) (served drawn : ℕ) (log : List I) (v : View B I) : Type 0 where
     pub right : 0 < v.parts → IsRight b log v.own
     pub joined : AreRight b log v.joined
@@ -61,6 +66,8 @@ module _ {T B I : Type 0} (base : T → B) (entries : T → List I) (opened : T)
       ⊎ ((x : T) × (homes ≡ some (Some x) ∷ []) × (base x ≡ base opened) × (entries x ≡ log) × ((j t : ℕ) (v : View B I) → get_elem? views j ≡ some v → v.stage ≢ Inside t))
 
 module _ {T B I : Type 0} (base : T → B) (entries : T → List I) (opened : T) (seats : ℕ) where
+  -- the rule: the words show how many tickets were drawn, which is served and how many entries there are; each ticket
+  -- from there on is one seat's; each seat knows what is right; and the slot has the value, or the seat whose turn it is.
   -- `claimed`: each place from the opening on and below the number of entries stands in the places of exactly one seat, once, and no other place stands in any
   pub record Ruled (s : State (Option T) (View B I)) : Type 0 where
     pub drawn : ℕ
@@ -86,10 +93,11 @@ pub record Ends {T B I : Type 0} (base : T → B) (entries : T → List I) (open
   pub claimed : (y : ℕ) → claims y v + below (length (entries opened)) y ≡ below (length (entries x)) y
 
 module _ {B I : Type 0} where
-  -- what a seat knows that has done nothing, and what is left of a seat that was joined into another
+  -- what a seat knows that has done nothing
   abbrev pub begins : B → List I → Known B I
   begins b log = record { base = Some b; seen = log; mine = []; floor = length log }
 
+  -- what is known where a seat has no part
   abbrev pub knows_nothing : Known B I
   knows_nothing = record { base = None; seen = []; mine = []; floor = 0 }
 
@@ -97,6 +105,7 @@ module _ {B I : Type 0} where
   abbrev pub fresh : ℕ → B → List I → View B I
   fresh parts b log = record { parts = parts; stage = Idle; own = begins b log; joined = [] }
 
+  -- what is left of a seat that was joined into another
   abbrev pub spent : View B I
   spent = record { parts = 0; stage = Idle; own = knows_nothing; joined = [] }
 
@@ -107,9 +116,11 @@ module _ {B I : Type 0} where
   abbrev pub second_of : View B I → View B I
   second_of v = record { parts = v.parts - 1; stage = Idle; own = record v.own { mine = [] }; joined = [] }
 
+  -- the first seat has the parts of both, and keeps what each knew
   abbrev pub joined_of : View B I → View B I → View B I
   joined_of v w = record v { parts = v.parts + w.parts; joined = w.own ∷ (v.joined ++ w.joined) }
 
+  -- the same seat at another stage
   abbrev pub at_stage : View B I → Stage → View B I
   at_stage v st = record v { stage = st }
 
@@ -121,28 +132,35 @@ module _ {B I : Type 0} where
   abbrev pub counted_to : View B I → List I → View B I
   counted_to v es = record v { own = record v.own { seen = es; mine = v.own.mine ++ places (length v.own.seen) (length es - length v.own.seen) } }
 
+  -- the seat has seen that there are n entries
   abbrev pub raised_to : View B I → ℕ → View B I
   raised_to v n = record v { own = record v.own { floor = n } }
 
-abbrev Sat : Type 0 → Type 0 → Type 0 → Type 0
-Sat T B I = Me (Option T) (View B I)
+-- a seat at the table: its view, and what it has of the slots
+abbrev SeatState : Type 0 → Type 0 → Type 0 → Type 0
+SeatState T B I = Me (Option T) (View B I)
 
 module _ {T B I : Type 0} where
-  abbrev pub drew : Step (Option T) → Sat T B I → ℕ → Sat T B I → Type 0
+  -- a ticket was drawn: r is its number, as a word holds it
+  abbrev pub drew : Step (Option T) → SeatState T B I → ℕ → SeatState T B I → Type 0
   drew st m r m' = (t : ℕ) × (r ≡ t % 2 ^ 64) × (m'.0 ≡ at_stage m.0 (Waiting t)) × (m'.1 ≡ m.1)
 
   -- the turn of ticket t has come, with the value in hand, for which all that the seat knew is right
-  abbrev pub Came : (T → B) → (T → List I) → ℕ → Sat T B I → Sat T B I → Type 0
+  abbrev pub Came : (T → B) → (T → List I) → ℕ → SeatState T B I → SeatState T B I → Type 0
   Came base entries t m m' = (x : T) × (m'.1 ≡ (0, Some x) ∷ m.1) × (m'.0 ≡ turned_to m.0 t (entries x)) × IsRight (base x) (entries x) m.0.own × (length (entries x) < 2 ^ 64)
 
-  abbrev pub looked : (T → B) → (T → List I) → Step (Option T) → Sat T B I → ℕ → Sat T B I → Type 0
+  -- the word of the ticket that is served was loaded: the turn has come, or nothing has changed
+  abbrev pub looked : (T → B) → (T → List I) → Step (Option T) → SeatState T B I → ℕ → SeatState T B I → Type 0
   looked base entries st m r m' = (t : ℕ) → m.0.stage ≡ Waiting t → (r ≡ t % 2 ^ 64 → Came base entries t m m') × (r ≢ t % 2 ^ 64 → m' ≡ m)
 
-  abbrev pub counted : (T → List I) → Step (Option T) → Sat T B I → ℕ → Sat T B I → Type 0
+  -- the number of entries was stored, the value being in hand
+  abbrev pub counted : (T → List I) → Step (Option T) → SeatState T B I → ℕ → SeatState T B I → Type 0
   counted entries st m r m' = (x : T) → m.1 ≡ (0, Some x) ∷ rest m.1 → (m'.0 ≡ counted_to m.0 (entries x)) × (m'.1 ≡ m.1)
 
-  abbrev pub released : Step (Option T) → Sat T B I → ℕ → Sat T B I → Type 0
+  -- the value is at home, and the seat has no ticket
+  abbrev pub released : Step (Option T) → SeatState T B I → ℕ → SeatState T B I → Type 0
   released st m r m' = (m'.0 ≡ at_stage m.0 Idle) × (m'.1 ≡ rest m.1)
 
-  abbrev pub glanced : Step (Option T) → Sat T B I → ℕ → Sat T B I → Type 0
+  -- the number of entries was loaded: it is no less than what the seat knew
+  abbrev pub glanced : Step (Option T) → SeatState T B I → ℕ → SeatState T B I → Type 0
   glanced st m r m' = (m'.0 ≡ raised_to m.0 r) × (m'.1 ≡ m.1) × (m.0.own.floor ≤ r) × (length m.0.own.seen ≤ r)

@@ -3,7 +3,7 @@ ghost use Rattle.std.specs.Prelude.{◌≡◌, ℕ, ◌+◌, ◌<◌, ◌≤◌,
 ghost use Rattle.turn_lock.specs.declared.view.Stage.TheVariants.{Idle};
 ghost use Rattle.turn_lock.specs.Turns.{Ends};
 ghost use Rattle.turn_lock.specs.Lists.{StartsWith};
-ghost use Rattle.turn_lock.specs.Handles.{AllOut, AreSharedOut, Gathers, IsRightFor, seats_of, opened, opening};
+ghost use Rattle.turn_lock.specs.Handles.{AllOut, AreSharedOut, Gathers, IsRightFor, seats_of, opened, entries_at_opening};
 
 use crate::Journaled;
 use crate::handles::{Pass, TurnLock};
@@ -20,7 +20,7 @@ impl<T: Journaled> TurnLock<T> {
         ensures base { T.base result ≡ T.base (opened self) }
         ensures grown { StartsWith (T.entries result) (T.entries (opened self)) }
         ensures right { (k : ℕ) (p : _) → slice_get passes.items k ≡ Some p → IsRightFor T.base T.entries p result }
-        ensures places { AreSharedOut (opening T.entries self) (length (T.entries result)) passes.items }
+        ensures places { AreSharedOut (entries_at_opening T.entries self) (length (T.entries result)) passes.items }
     {
         let seat = self.gather(passes);
         self.finish(seat)
