@@ -6,8 +6,9 @@
 mod words;
 
 use crate::words::{NoWords, words};
+use gk_base::Stop;
 use gk_io::{DirShelf, OutSink};
-use gkey_cmd::run;
+use gkey_cmd::{NO_MEMORY, NO_WORDS, run};
 use std::process::ExitCode;
 
 fn main(rt: HostRuntime) -> ExitCode {
@@ -18,7 +19,7 @@ fn main(rt: HostRuntime) -> ExitCode {
             let mut err = OutSink::new(rt.stderr());
             ExitCode::from(run(&rt, rt.alloc(), &words, &mut shelf, &mut out, &mut err))
         }
-        Err(NoWords::NoMemory) => ExitCode::from(5),
-        Err(NoWords::Failed) => ExitCode::from(6),
+        Err(Stop::NoMemory) => ExitCode::from(NO_MEMORY),
+        Err(Stop::Fault(NoWords)) => ExitCode::from(NO_WORDS),
     }
 }

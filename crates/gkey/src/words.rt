@@ -1,42 +1,19 @@
 //! The words that the program is called with.
 
-use gk_base::{NoMemory, Text};
-use std::alloc::{AllocError, AllocFailed, Global};
+use gk_base::{Stop, Text};
+use std::alloc::Global;
 use std::env::FillError;
 use std::rt::Env;
 
-/// The room in bytes for the first word; most words are shorter.
+/// The room in bytes for the first word. Most words are shorter, and it grows for the others.
 const FIRST_ROOM: usize = 256;
 
 /// How often a word is asked for, each time with twice the room, so with 32 MiB at last. No system hands over a word as long.
 const MOST_TRIES: u32 = 18;
 
-/// Why there are no words.
+/// The system did not give the words.
 #[derive(Clone, Copy, Debug, PartialEq, Eq)]
-pub enum NoWords {
-    /// No memory was to be had; the status is 5.
-    NoMemory,
-    /// The system did not give the words; the status is 6.
-    Failed,
-}
-
-impl From<AllocError> for NoWords {
-    fn from(_: AllocError) -> Self {
-        NoWords::NoMemory
-    }
-}
-
-impl<T: Drop> From<AllocFailed<T>> for NoWords {
-    fn from(_: AllocFailed<T>) -> Self {
-        NoWords::NoMemory
-    }
-}
-
-impl From<NoMemory> for NoWords {
-    fn from(_: NoMemory) -> Self {
-        NoWords::NoMemory
-    }
-}
+pub struct NoWords;
 
 /// A copy of this word, and none behind the last. The buffer grows till the word fits.
 fn word<E: Env>(
@@ -44,7 +21,7 @@ fn word<E: Env>(
     alloc: Global,
     at: usize,
     buf: &mut Vec<u8>,
-) -> Result<Option<Text>, NoWords> {
+) -> Result<Option<Text>, Stop<NoWords>> {
     for _ in 0..MOST_TRIES {
         match env.arg(at, buf.as_mut_slice()) {
             Ok(count) => return Ok(Some(Text::from_bytes(alloc, &buf[..count])?)),
@@ -52,11 +29,12 @@ fn word<E: Env>(
             Err(FillError::TooLong) => buf.resize(buf.len().saturating_mul(2), 0)?,
         }
     }
-    Err(NoWords::Failed)
+    Err(Stop::Fault(NoWords))
 }
 
-/// A copy of the words after the program's name, byte for byte: a word need not be text.
-pub fn words<E: Env>(env: &E, alloc: Global) -> Result<Vec<Text>, NoWords> {
+/// A copy of the words after the program's name, byte for byte: a word need not be text. No contract can say what the system
+/// gives, so tests alone show that they are copied unchanged.
+pub fn words<E: Env>(env: &E, alloc: Global) -> Result<Vec<Text>, Stop<NoWords>> {
     let mut buf = vec![in alloc; 0u8; FIRST_ROOM]?;
     let mut words = Vec::new(alloc);
     for at in 1..usize::MAX {

@@ -1,26 +1,42 @@
 -- How a run ends, from what was read.
 use Rattle.std.proofs.Common.{List, [], ◌∷◌, ◌++◌, ℕ, Some, Result, Ok, Err, IfSome, IsSomeAnd, MatchResult, Vec, Global, vec_items, ◌≡◌, ◌∙◌, inl, inr, refl, sym, subst}
 use Rattle.gk_base.specs.declared.limits.Limits.{Limits}
-use Rattle.gk_io.specs.Cause.{Rose}
-use Rattle.gk_io.specs.declared.shelf.Shelf
+use Rattle.gk_base.specs.declared.read_fault.ReadRefusal.{ReadRefusal}
+use Rattle.gk_base.specs.declared.stop.Stop.{Stop}
+use Rattle.gk_base.specs.declared.stop.Stop.TheVariants as stop
 use Rattle.gk_base.specs.declared.term.Triple.{Triple}
+use Rattle.gk_io.specs.Cause.{Rose}
 use Rattle.gk_io.specs.Files.{bytes_of}
+use Rattle.gk_io.specs.declared.file_fault.FileFault.{FileFault}
+use Rattle.gk_io.specs.declared.file_fault.FileFault.TheVariants as fault
+use Rattle.gk_io.specs.declared.shelf.Shelf
+use Rattle.nt_reader.proofs.CallerLemmas.{file_once}
 use Rattle.key_file.specs.KeyShape.{KeyShape}
+use Rattle.key_lang.proofs.CallerLemmas.{keys_once}
+use Rattle.graph_rows.specs.GraphFile.{StopsSoon, GivesRows}
+use Rattle.graph_rows.proofs.CallerLemmas.{told, told_both}
 use Rattle.gkey_cmd.specs.Commands.{Wanted, Matching, files_of}
-use Rattle.gkey_cmd.specs.Reading.{NamedFiles, IsAccepted, GraphSays, KeyFileSays, IsRefusedSo, AllAccepted, FirstRefused, Refusal, InGraph, InKeys, MorePairsThan}
-use Rattle.nt_reader.proofs.OneFile.{file_once}
-use Rattle.key_lang.proofs.OnceLemmas.{keys_once}
-use Rattle.gkey_cmd.specs.Pieces.{StopsSoon, IsReadWithin, KeysLeft, StopsReading}
+use Rattle.gkey_cmd.specs.Reading.{NamedFiles, IsAccepted, GraphSays, KeyFileSays, IsRefusedSo, AllAccepted, FirstRefused}
+use Rattle.gkey_cmd.specs.HowFar.{IsReadWithin, KeysLeft, StopsReading}
+use Rattle.gkey_cmd.specs.Failing.{HasFailed}
 use Rattle.gkey_cmd.specs.Matched.{IsReport, HasTooManyPairs}
 use Rattle.gkey_cmd.specs.Written.{HasMorePairs, IsAnswered, IsRefused}
-use Rattle.gkey_cmd.specs.Stops.{MatchEnds}
-use Rattle.gkey_cmd.specs.Causes.{HasFailed, Stopped, StopsAt, ReadBy, ReadSoFar}
+use Rattle.gkey_cmd.specs.MatchEnds.{MatchEnds}
+use Rattle.gkey_cmd.specs.Endings.{graph_ending, Stopped, StopsAt, EndsAt, ReadSoFar}
 use Rattle.gkey_cmd.specs.declared.file.File.{File}
 use Rattle.gkey_cmd.specs.declared.file.File.TheVariants.{Graph, Keys}
 use Rattle.gkey_cmd.specs.declared.ending.Answer.TheVariants.{Given}
+use Rattle.gkey_cmd.specs.declared.ending.Refusal.{Refusal}
+use Rattle.gkey_cmd.specs.declared.ending.Refusal.TheVariants.{InGraph, InKeys, MorePairsThan}
 use Rattle.gkey_cmd.specs.declared.ending.Ending.{Ending}
-use Rattle.gkey_cmd.specs.declared.ending.Ending.TheVariants.{NoRow, Failed, Refused, NoMemory, Done}
-use Rattle.gkey_cmd.proofs.Told.{told, told_both}
+use Rattle.gkey_cmd.specs.declared.ending.Ending.TheVariants.{NoCommand, Failed, Refused, NoMemory, Done}
+
+-- a graph is not to be had, and the run ends at it
+pub graph_ends : {K : Type 0} (shelf : Shelf.Ghosts K) (before after : K) (limits : Limits) (name : List ℕ) (stop : Stop (FileFault ReadRefusal)) →
+    GivesRows shelf before after limits name (Err stop) → EndsAt shelf before after limits Graph name (graph_ending stop)
+graph_ends shelf before after limits name stop.NoMemory h = h
+graph_ends shelf before after limits name (stop.Fault fault.Failed) h = (refl, h)
+graph_ends shelf before after limits name (stop.Fault (fault.Refused refusal)) h = (h.0, h.1, h.2)
 
 -- after accepted files the first refused one is that of the others
 refused_after : (limits : Limits) (files : NamedFiles) (before others : List (File × List ℕ)) (refusal : Refusal) →
@@ -66,35 +82,31 @@ module _ {K : Type 0} (shelf : Shelf.Ghosts K) (old mid new : K) (limits : Limit
   stops_first Keys (MorePairsThan limit) h = h
 
   -- the next file is not to be had
-  pub stopped : {A : Type 0} (Says : NamedFiles → A → Type 0) (command : Wanted) (after : List (File × List ℕ)) → files_of command ≡ before ++ (file, name) ∷ after →
+  pub stopped : (command : Wanted) (after : List (File × List ℕ)) → files_of command ≡ before ++ (file, name) ∷ after →
       ((refusal : Refusal) → StopsAt shelf old new limits file name refusal → StopsReading shelf old new (Some command) limits refusal) →
-      (ending : Ending) → ReadBy shelf mid new file name limits Says (Err ending) → Stopped shelf old new command limits ending
-  stopped Says command after e stops NoRow h = absurd h
-  stopped Says command after e stops (Failed which) h =
+      (ending : Ending) → EndsAt shelf mid new limits file name ending → Stopped shelf old new command limits ending
+  stopped command after e stops NoCommand h = absurd h
+  stopped command after e stops (Failed which) h =
       let P : File → Type 0 = λ f. HasFailed shelf old new command limits f in
       subst P (sym h.0) (record {
         before = before;
         name = name;
         after = after;
         stands = e;
-        rose = subst (λ n. Rose n (shelf.faults new)) so_far.count h.1;
-        asked_for = h.2;
-        is_bad = h.3;
+        rose = subst (λ n. Rose n (shelf.faults new)) so_far.count h.1.rose;
+        asked_for = h.1.asked_for;
+        is_bad = h.1.is_bad;
         accepted = so_far.accepted;
       })
-  stopped Says command after e stops (Refused text) h = (
+  stopped command after e stops (Refused refusal) h = (
     h.0 ∙ so_far.count,
-    (
-      h.1.0,
-      h.1.1,
-      told_both (shelf.held old) (λ files. AllAccepted limits files before) (λ files. IsRefusedSo limits files file name h.1.0) _
-          (λ files a k. inl (subst (λ fs. FirstRefused limits files fs h.1.0) (sym e) (refused_after limits files before ((file, name) ∷ after) h.1.0 a (inl k))))
-          so_far.accepted (told_first _ h.1.2),
-      stops h.1.0 (stops_first file h.1.0 h.1.3),
-    ),
+    told_both (shelf.held old) (λ files. AllAccepted limits files before) (λ files. IsRefusedSo limits files file name refusal) _
+        (λ files a k. inl (subst (λ fs. FirstRefused limits files fs refusal) (sym e) (refused_after limits files before ((file, name) ∷ after) refusal a (inl k))))
+        so_far.accepted (told_first _ h.1),
+    stops refusal (stops_first file refusal h.2),
   )
-  stopped Says command after e stops NoMemory h = h ∙ so_far.count
-  stopped Says command after e stops (Done answer text) h = absurd h
+  stopped command after e stops NoMemory h = h ∙ so_far.count
+  stopped command after e stops (Done answer text) h = absurd h
 
 -- ---- a match
 
@@ -144,17 +156,14 @@ module _ {K : Type 0} (shelf : Shelf.Ghosts K) (old new : K) (limits : Limits) (
         (λ files g k. is_answered limits files graph keys triples key_list g k (vec_items text) h.0 h.1) in_graph in_keys,
     left,
   )
-  match_ended (Err (Refused text)) h = (
+  match_ended (Err (Refused refusal)) h = (
     count,
-    (
-      MorePairsThan limits.pairs,
-      h.0,
-      told_both (shelf.held old) _ _ (λ files. IsRefused (Some (Matching graph keys)) files limits (MorePairsThan limits.pairs))
-          (λ files g k. is_refused limits files graph keys triples key_list g k h.1) in_graph in_keys,
-      left,
-    ),
+    subst (λ r. IfSome (shelf.held old) (λ files. IsRefused (Some (Matching graph keys)) files limits r)) (sym h.0)
+        (told_both (shelf.held old) _ _ (λ files. IsRefused (Some (Matching graph keys)) files limits (MorePairsThan limits.pairs))
+        (λ files g k. is_refused limits files graph keys triples key_list g k h.1) in_graph in_keys),
+    subst (λ r. StopsReading shelf old new (Some (Matching graph keys)) limits r) (sym h.0) left,
   )
   match_ended (Err NoMemory) h = count
-  match_ended (Err NoRow) h = absurd h
+  match_ended (Err NoCommand) h = absurd h
   match_ended (Err (Failed file)) h = absurd h
   match_ended (Err (Done answer text)) h = absurd h

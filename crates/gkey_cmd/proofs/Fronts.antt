@@ -3,8 +3,12 @@
 use Rattle.std.proofs.Common.{List, ◌++◌, ◌≤◌, ℕ, Option, Some, None, IfSome, IsSomeAnd, Result, Ok, Err, if◌then◌else◌, ◌≡◌, ◌+◌, ◌<◌, sym, ◌∙◌, ap, ap₂, subst, take, length, slice_index, arith, inl, inr}
 use Rattle.std.proofs.lemmas.List.{take-take, take_all, length-take-le, get_or-take}
 use Rattle.std.proofs.lemmas.Bool.{cases_lt, lt-ltb, lt-leb}
+use Rattle.gk_base.specs.Answers.{IsSo}
+use Rattle.gk_base.specs.declared.limits.Limits.{Limits}
+use Rattle.gk_base.specs.declared.stop.Stop.{Stop}
+use Rattle.gk_base.specs.declared.stop.Stop.TheVariants as stop
 use Rattle.gk_io.specs.Files.{bytes_of}
-use Rattle.gkey_cmd.specs.Pieces.{IsReadWithin}
+use Rattle.gk_io.specs.declared.shelf.Shelf
 use Rattle.nt_reader.specs.Lines.{cut_of, lines}
 use Rattle.nt_reader.specs.File.{judged, line_of_next}
 use Rattle.key_file.specs.KeyShape.{KeyShape}
@@ -13,6 +17,9 @@ use Rattle.key_lang.specs.declared.fault.KeyRefusal.{KeyRefusal}
 use Rattle.key_lang.specs.Answers.{stops, goes_on}
 use Rattle.key_lang.specs.OpenKey.{KeyState}
 use Rattle.key_lang.specs.KeyText.{LinesSay, KeysSay, start, ended, after_lines}
+use Rattle.gkey_cmd.specs.HowFar.{IsReadWithin, KeysLeft}
+use Rattle.gkey_cmd.specs.Endings.{keys_ending, EndsAt}
+use Rattle.gkey_cmd.specs.declared.file.File.TheVariants.{Keys}
 
 -- the first bytes of a longer file
 module _ (limit : ℕ) (bytes : List ℕ) (longer : limit < length bytes) where
@@ -61,7 +68,7 @@ keys_loaded (Some files) limit name bytes seen answer h e j =
     keys_front limit (bytes_of files name) answer (subst (λ xs. KeysSay limit xs answer) (e ∙ h) j)
 
 -- a key file whose first bytes were read is left within one byte of its limit
-pub left_within : (limit : ℕ) (bytes : List ℕ) (rest : Option (List ℕ)) (read : List ℕ) → length read ≤ limit + 1 →
+left_within : (limit : ℕ) (bytes : List ℕ) (rest : Option (List ℕ)) (read : List ℕ) → length read ≤ limit + 1 →
     IsSomeAnd rest (λ left. read ++ left ≡ bytes) → IsSomeAnd rest (λ left. IsReadWithin limit bytes left)
 left_within limit bytes None read within h = h
 left_within limit bytes (Some left) read within h = record { gone = read; whole = sym h; within = within }
@@ -71,3 +78,11 @@ pub keys_left : (asked : Option (List ℕ)) (held : Option (List (List ℕ × Li
     (asked ≡ Some name) × IfSome held (λ files. IsSomeAnd rest (λ left. IsReadWithin limit (bytes_of files name) left))
 keys_left asked None rest name limit read e within h = (e, tt)
 keys_left asked (Some files) rest name limit read e within h = (e, left_within limit (bytes_of files name) rest read within h)
+
+-- the first bytes say no keys, and the run ends at the key file
+pub keys_end : {K : Type 0} (shelf : Shelf.Ghosts K) (before after : K) (limits : Limits) (name bytes seen : List ℕ) (stop : Stop KeyRefusal) → shelf.faults after ≡ shelf.faults before →
+    IfSome (shelf.held before) (λ files. bytes ≡ take (limits.key_bytes + 1) (bytes_of files name)) → seen ≡ bytes → KeysLeft shelf before after limits name →
+    IsSo {A = List KeyShape} (KeysSay limits.key_bytes seen) (Err stop) → EndsAt shelf before after limits Keys name (keys_ending stop)
+keys_end shelf before after limits name bytes seen stop.NoMemory count loaded same left says = count
+keys_end shelf before after limits name bytes seen (stop.Fault refusal) count loaded same left says =
+    (count, keys_loaded (shelf.held before) limits.key_bytes name bytes seen (Err refusal) loaded same says, left)

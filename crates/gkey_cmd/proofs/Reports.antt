@@ -1,5 +1,5 @@
 -- The report of the graph that was built is that of the triples.
-use Rattle.std.proofs.Common.{List, ℕ, Bool, IsTrue, ◌↔◌, ◌^◌, length, slice_index, ◌==◌, ◌≡◌, ◌∙◌, ◌<◌, ◌≤◌, sym, ap, subst, arith, eqb-true, eq-eqb}
+use Rattle.std.proofs.Common.{List, ℕ, Bool, IsTrue, ◌↔◌, length, slice_index, ◌==◌, ◌≡◌, ◌∙◌, ◌<◌, sym, ap, subst, arith, eqb-true, eq-eqb}
 use Rattle.std.proofs.lemmas.List.{length-map}
 use Rattle.std.proofs.lemmas.List.Elements.{All-weaker}
 use Rattle.gk_base.specs.Term.{is_literal}
@@ -14,15 +14,16 @@ use Rattle.chase_laws.specs.Report.{report_text}
 use Rattle.term_text.specs.CanonicalText.{texts_of}
 use Rattle.pair_seed.specs.Pairs.{HasMoreCandidates}
 use Rattle.pair_seed.specs.Stop.{IsRightStop}
-use Rattle.pair_seed.specs.declared.stop.SeedStop.{SeedStop}
-use Rattle.pair_seed.specs.declared.stop.SeedStop.TheVariants.{NoMemory, TooManyPairs}
+use Rattle.gk_base.specs.declared.stop.Stop.{Stop}
+use Rattle.gk_base.specs.declared.stop.Stop.TheVariants.{NoMemory, Fault}
+use Rattle.pair_seed.specs.declared.stop.TooManyPairs.{TooManyPairs}
 use Rattle.match_run.specs.Classes.{AreClasses}
 use Rattle.key_file.specs.KeyShape.{KeyShape}
-use Rattle.key_file.specs.Compile.{patterns_of, shape_of}
+use Rattle.key_file.specs.Compile.{patterns_of}
 use Rattle.key_file.specs.Numbered.{names_for, graph_of}
-use Rattle.gkey_cmd.specs.Rows.{AreSameGraph}
+use Rattle.graph_rows.specs.Numbered.{AreSameGraph}
 use Rattle.gkey_cmd.specs.Matched.{IsReport, HasTooManyPairs}
-use Rattle.gkey_cmd.specs.Stops.{IsRightMatchStop}
+use Rattle.gkey_cmd.specs.MatchEnds.{IsRightMatchStop}
 
 -- what the law of more rows says of the same names, and of candidates
 abbrev pub SameLaw : Type 0
@@ -70,10 +71,6 @@ module _ (triples : List Triple) (keys : List KeyShape) (G : NumberedGraph) (nam
   not_too_many law limit none_more h = none_more (more_too law (graph_of names triples) G K limit (record { there = built.back; back = built.there })
       (subst (λ k. HasMoreCandidates (graph_of names triples) k limit) (sym are_patterns) (subst (λ ns. HasMoreCandidates (graph_of ns triples) (patterns_of ns keys) limit) (sym are_names) h)))
 
-  pub right_stop : CandidateLaw → (limit : ℕ) (stop : SeedStop) → IsRightStop G K limit stop → IsRightMatchStop triples keys limit stop
+  pub right_stop : CandidateLaw → (limit : ℕ) (stop : Stop TooManyPairs) → IsRightStop G K limit stop → IsRightMatchStop triples keys limit stop
   right_stop law limit NoMemory h = tt
-  right_stop law limit (TooManyPairs found) h = too_many law limit h.1
-
--- a key file has few patterns
-pub few_patterns : (names : List Term) (keys : List KeyShape) (K : List Shape) → K ≡ patterns_of names keys → length keys ≤ 64 → length K < 2 ^ 32
-few_patterns names keys K e few = let a : length K ≡ length keys = ap length e ∙ length-map keys (shape_of names) in omega arith
+  right_stop law limit (Fault many) h = too_many law limit h.1

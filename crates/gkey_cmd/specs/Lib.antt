@@ -1,12 +1,13 @@
-pub mod Files
+-- what callers of this crate read
 pub mod Commands
-pub mod Rows
-pub mod Matched
+pub mod Texts
 pub mod Reading
-pub mod Pieces
-pub mod Feeding
+pub mod HowFar
+pub mod Failing
 pub mod Sent
+pub mod Matched
 pub mod Written
-pub mod Causes
-pub mod Stops
 pub mod Run
+-- inner invariants and words of the proofs
+pub mod MatchEnds
+pub mod Endings

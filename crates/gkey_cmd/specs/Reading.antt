@@ -1,7 +1,5 @@
 -- What the files of a run say, and which of them is refused.
-use Rattle.std.specs.Prelude.{List, [], ◌∷◌, ℕ, ◌⊎◌, ◌++◌, Result, Ok, Err, codes}
-use Rattle.std.specs.Fmt.{decimal}
-use Rattle.gk_base.specs.Faults.{read_text}
+use Rattle.std.specs.Prelude.{List, [], ◌∷◌, ℕ, ◌⊎◌, Result, Ok, Err}
 use Rattle.gk_base.specs.declared.limits.Limits.{Limits}
 use Rattle.gk_base.specs.declared.term.Triple.{Triple}
 use Rattle.gk_base.specs.declared.read_fault.ReadRefusal.{ReadRefusal}
@@ -9,11 +7,11 @@ use Rattle.gk_io.specs.Files.{bytes_of}
 use Rattle.nt_reader.specs.File.{FileSays}
 use Rattle.key_file.specs.KeyShape.{KeyShape}
 use Rattle.key_lang.specs.KeyText.{KeysSay}
-use Rattle.key_lang.specs.Faults.{key_fault_text}
 use Rattle.key_lang.specs.declared.fault.KeyRefusal.{KeyRefusal}
-use Rattle.gkey_cmd.specs.Files.{file_text}
 use Rattle.gkey_cmd.specs.declared.file.File.{File}
 use Rattle.gkey_cmd.specs.declared.file.File.TheVariants.{Graph, Keys}
+use Rattle.gkey_cmd.specs.declared.ending.Refusal.{Refusal}
+use Rattle.gkey_cmd.specs.declared.ending.Refusal.TheVariants.{InGraph, InKeys, MorePairsThan}
 
 -- files by name, as a shelf tells them
 abbrev pub NamedFiles : Type 0
@@ -26,22 +24,6 @@ GraphSays limits bytes answer = FileSays limits bytes answer
 -- what the bytes of a key file say: its keys, or the first refused line
 abbrev pub KeyFileSays : Limits → List ℕ → Result (List KeyShape) KeyRefusal → Type 0
 KeyFileSays limits bytes answer = KeysSay limits.key_bytes bytes answer
-
--- why there is no answer: a line of the graph or of the key file is refused, or there are too many candidate pairs
-pub data Refusal : Type 0 where
-  InGraph : ReadRefusal → Refusal
-  InKeys : KeyRefusal → Refusal
-  MorePairsThan : ℕ → Refusal
-
--- a refused line, as an error text names it
-abbrev pub line_text : File → ℕ → List ℕ → List ℕ
-line_text file line fault = file_text file ++ codes ":" ++ decimal line ++ codes ": " ++ fault ++ codes "\n"
-
--- the error text of a refusal
-abbrev pub refused_text : Refusal → List ℕ
-refused_text (InGraph refusal) = line_text Graph refusal.line (read_text refusal.fault)
-refused_text (InKeys refusal) = line_text Keys refusal.line (key_fault_text refusal.fault)
-refused_text (MorePairsThan limit) = codes "pairs: more than " ++ decimal limit ++ codes "\n"
 
 -- the file under this name is accepted
 abbrev pub IsAccepted : Limits → NamedFiles → File → List ℕ → Type 0

@@ -6,14 +6,14 @@ use Rattle.gk_io.specs.Cause.{Rose}
 use Rattle.gk_io.specs.declared.shelf.Shelf
 use Rattle.gk_io.specs.declared.sink.Sink
 use Rattle.gkey_cmd.specs.Commands.{Wanted}
-use Rattle.gkey_cmd.specs.Files.{read_failed}
-use Rattle.gkey_cmd.specs.Reading.{Refusal, refused_text}
-use Rattle.gkey_cmd.specs.Pieces.{LeavesFiles, StopsReading}
+use Rattle.gkey_cmd.specs.Texts.{usage, out_of_memory, write_failed, read_failed, refused_text}
+use Rattle.gkey_cmd.specs.HowFar.{LeavesFiles, StopsReading}
+use Rattle.gkey_cmd.specs.Failing.{HasFailed}
 use Rattle.gkey_cmd.specs.Sent.{TookAll, TookLess, Sent}
-use Rattle.gkey_cmd.specs.Written.{usage, out_of_memory, write_failed, status_of, IsAnswer, IsRefused, AreAccepted, IsAnswered, WritesFor}
-use Rattle.gkey_cmd.specs.Causes.{HasFailed}
+use Rattle.gkey_cmd.specs.Written.{status_of, IsAnswer, IsRefused, AreAccepted, IsAnswered, WritesFor}
 use Rattle.gkey_cmd.specs.declared.file.File.{File}
 use Rattle.gkey_cmd.specs.declared.ending.Answer.{Answer}
+use Rattle.gkey_cmd.specs.declared.ending.Refusal.{Refusal}
 
 -- A run asked for this command, or for none, with these limits, and ended with this status. `shelf`, `out` and `err` say
 -- what is known of the shelf of files, of standard output and of the error stream; each comes before and after the run.

@@ -1,25 +1,17 @@
 -- What a run writes: the relation of its words, its files and its limits to its status, its output and its error text.
-use Rattle.std.specs.Prelude.{List, [], ℕ, ◌≡◌, ◌⊎◌, ◌≤◌, ◌^◌, Option, Some, None, Ok, codes}
+use Rattle.std.specs.Prelude.{List, [], ℕ, ◌≡◌, ◌⊎◌, ◌≤◌, ◌^◌, Option, Some, None, Ok}
 use Rattle.gk_base.specs.declared.limits.Limits.{Limits}
 use Rattle.gk_base.specs.declared.term.Triple.{Triple}
 use Rattle.gk_io.specs.Files.{bytes_of}
 use Rattle.key_file.specs.KeyShape.{KeyShape}
 use Rattle.gkey_cmd.specs.Commands.{Wanted, Matching, files_of}
-use Rattle.gkey_cmd.specs.Reading.{NamedFiles, GraphSays, KeyFileSays, Refusal, MorePairsThan, refused_text, AllAccepted, FirstRefused}
+use Rattle.gkey_cmd.specs.Texts.{usage, refused_text}
+use Rattle.gkey_cmd.specs.Reading.{NamedFiles, GraphSays, KeyFileSays, AllAccepted, FirstRefused}
 use Rattle.gkey_cmd.specs.Matched.{IsReport, HasTooManyPairs}
 use Rattle.gkey_cmd.specs.declared.ending.Answer.{Answer}
 use Rattle.gkey_cmd.specs.declared.ending.Answer.TheVariants.{Given}
-
--- the usage text
-abbrev pub usage : List ℕ
-usage = codes "usage:\n  gkey match GRAPH KEYS\n"
-
--- the error texts of want of memory and of a failed write
-abbrev pub out_of_memory : List ℕ
-out_of_memory = codes "out of memory\n"
-
-abbrev pub write_failed : List ℕ
-write_failed = codes "output: write failed\n"
+use Rattle.gkey_cmd.specs.declared.ending.Refusal.{Refusal}
+use Rattle.gkey_cmd.specs.declared.ending.Refusal.TheVariants.{MorePairsThan}
 
 -- the status of an answer
 abbrev pub status_of : Answer → ℕ

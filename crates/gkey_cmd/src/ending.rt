@@ -1,13 +1,19 @@
-//! How a run ends, and what it leaves.
+//! How a run ends: with an answer, or with what stopped it; and what is written at the end.
 
-ghost use Rattle.std.specs.Prelude.{◌≡◌, MatchResult, Ok};
+ghost use Rattle.std.specs.Prelude.{◌≡◌, MatchResult};
 ghost use Rattle.gkey_cmd.specs.Written.{status_of};
 ghost use Rattle.gkey_cmd.specs.Sent.{TookAll, TookLess, Sent};
-ghost use Rattle.gkey_cmd.specs.Causes.{IsReportedAs};
+ghost use Rattle.gkey_cmd.specs.Endings.{graph_ending, keys_ending, IsTold};
 
 use crate::file::File;
-use gk_base::NoMemory;
-use gk_io::{Failed, Sink, write_all};
+use crate::texts::{
+    DONE, NO_COMMAND, NO_MEMORY, OUT_OF_MEMORY, REFUSED, UNREAD, UNWRITTEN, USAGE, WRITE_FAILED,
+    read_failed, refused_text,
+};
+use gk_base::{NoMemory, ReadRefusal, Stop};
+use gk_io::{Failed, FileFault, FileStop, Sink, write_all};
+use key_lang::{KeyRefusal, KeyStop};
+use std::alloc::Global;
 
 /// The answer of a run that comes to its end.
 #[derive(Clone, Copy, Debug, PartialEq, Eq)]
@@ -22,33 +28,59 @@ impl Answer {
         ensures { result ≡ status_of self }
     {
         match self {
-            Answer::Given => 0,
+            Answer::Given => DONE,
         }
     }
+}
+
+/// Why a command is refused that the words ask for.
+#[derive(Clone, Copy, Debug, PartialEq, Eq)]
+pub enum Refusal {
+    /// The graph, at this line.
+    InGraph(ReadRefusal),
+    /// The key file, at this line.
+    InKeys(KeyRefusal),
+    /// There are more candidate pairs than this limit.
+    MorePairsThan(u64),
 }
 
 /// How a run ends before anything is written.
 #[derive(Drop)]
 pub enum Ending {
     /// The words ask for no command.
-    NoRow,
+    NoCommand,
     /// This file could not be found or read.
     Failed(File),
-    /// An input is refused, with this error text.
-    Refused(Vec<u8>),
+    /// The command is refused.
+    Refused(Refusal),
     /// No memory was to be had.
     NoMemory,
     /// The answer, with the text for the output.
     Done(Answer, Vec<u8>),
 }
 
-impl From<NoMemory> for Ending {
-    ghost use Rattle.gkey_cmd.specs.declared.ending.Ending.TheVariants as ending;
+/// The ending of a run whose graph is not to be had.
+impl From<FileStop<ReadRefusal>> for Ending {
+    ghost from_gives = { λ stop e. e ≡ graph_ending stop };
 
-    ghost from_gives = { λ _ e. e ≡ ending.NoMemory };
+    fn from(stop: FileStop<ReadRefusal>) -> Self {
+        match stop {
+            Stop::NoMemory => Ending::NoMemory,
+            Stop::Fault(FileFault::Failed) => Ending::Failed(File::Graph),
+            Stop::Fault(FileFault::Refused(refusal)) => Ending::Refused(Refusal::InGraph(refusal)),
+        }
+    }
+}
 
-    fn from(_: NoMemory) -> Self {
-        Ending::NoMemory
+/// The ending of a run whose key file says no keys.
+impl From<KeyStop> for Ending {
+    ghost from_gives = { λ stop e. e ≡ keys_ending stop };
+
+    fn from(stop: KeyStop) -> Self {
+        match stop {
+            Stop::NoMemory => Ending::NoMemory,
+            Stop::Fault(refusal) => Ending::Refused(Refusal::InKeys(refusal)),
+        }
     }
 }
 
@@ -67,33 +99,40 @@ fn tell<K: Sink>(sink: &mut K, text: &[u8])
     let _ = put(sink, text);
 }
 
-/// Writes what an ending leaves: the answer's text, or an error text. It gives the status.
-pub fn finish<O: Sink, E: Sink>(ending: &Ending, out: &mut O, err: &mut E) -> u8
-    ensures { IsReportedAs O.Sink E.Sink out.old out.new err.old err.new ending.now result }
+/// Writes what an ending leaves: the answer's text to the output, or to the error stream why there is none. It gives the
+/// status. Only the text of a refusal takes memory; where there is none for it, that is told instead.
+pub fn finish<O: Sink, E: Sink>(alloc: Global, ending: &Ending, out: &mut O, err: &mut E) -> u8
+    ensures { IsTold O.Sink E.Sink out.old out.new err.old err.new ending.now result }
 {
     match ending {
-        Ending::NoRow => {
-            tell(err, b"usage:\n  gkey match GRAPH KEYS\n");
-            64
-        }
-        Ending::Failed(file) => {
-            tell(err, file.read_failed());
-            3
-        }
-        Ending::Refused(text) => {
-            tell(err, text);
-            2
-        }
-        Ending::NoMemory => {
-            tell(err, b"out of memory\n");
-            5
-        }
         Ending::Done(answer, text) => match put(out, text) {
             Ok(()) => answer.status(),
             Err(Failed) => {
-                tell(err, b"output: write failed\n");
-                4
+                tell(err, WRITE_FAILED);
+                UNWRITTEN
             }
         },
+        Ending::Refused(refusal) => match refused_text(alloc, *refusal) {
+            Ok(text) => {
+                tell(err, &text);
+                REFUSED
+            }
+            Err(NoMemory) => {
+                tell(err, OUT_OF_MEMORY);
+                NO_MEMORY
+            }
+        },
+        Ending::Failed(file) => {
+            tell(err, read_failed(*file));
+            UNREAD
+        }
+        Ending::NoMemory => {
+            tell(err, OUT_OF_MEMORY);
+            NO_MEMORY
+        }
+        Ending::NoCommand => {
+            tell(err, USAGE);
+            NO_COMMAND
+        }
     }
 }

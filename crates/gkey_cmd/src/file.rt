@@ -1,7 +1,4 @@
-//! The files that a command reads.
-
-ghost use Rattle.std.specs.Prelude.{◌≡◌};
-ghost use Rattle.gkey_cmd.specs.Files.{file_text, read_failed};
+//! The files that commands read, as endings and error texts name them.
 
 /// A file that a command reads.
 #[derive(Clone, Copy, Debug, PartialEq, Eq)]
@@ -10,26 +7,4 @@ pub enum File {
     Graph,
     /// The key file.
     Keys,
-}
-
-impl File {
-    /// What an error text calls it.
-    pub fn text(self) -> &'static [u8]
-        ensures { result.now ≡ file_text self }
-    {
-        match self {
-            File::Graph => b"graph",
-            File::Keys => b"keys",
-        }
-    }
-
-    /// The error text where it could not be read.
-    pub fn read_failed(self) -> &'static [u8]
-        ensures { result.now ≡ read_failed self }
-    {
-        match self {
-            File::Graph => b"graph: read failed\n",
-            File::Keys => b"keys: read failed\n",
-        }
-    }
 }

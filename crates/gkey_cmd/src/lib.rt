@@ -4,29 +4,21 @@
 //!
 //! - `words`: the commands and the words that ask for them
 //! - `file`: the files that a command reads
-//! - `load`: a file's bytes
-//! - `rows`: triples in numbers
-//! - `pieces`: a graph's rows, read piece by piece
-//! - `reading`: what a file says, or why it is refused
-//! - `numbering`: names, graph and patterns in numbers
+//! - `order`: the order in which they are read, and what comes after the last
 //! - `matched`: what `match` prints
 //! - `ending`: how a run ends, and what it leaves
+//! - `texts`: each status with its meaning and the text for the error stream
 //! - `top`: `run`
 #![tactic(auto)]
 
 mod ending;
 mod file;
-mod load;
 mod matched;
-mod numbering;
-mod pieces;
-mod reading;
-mod rows;
+mod order;
+mod texts;
 mod top;
 mod words;
 
+pub use texts::{NO_MEMORY, NO_WORDS};
 pub use top::{run, run_with};
 pub use words::{Command, read_words};
-
-#[cfg(test)]
-mod tests;

@@ -1,17 +1,15 @@
-//! What `match` prints.
+//! What `match` prints: the report of the classes, from the rows of the graph and the keys.
 
 ghost use Rattle.std.specs.Prelude.{◌≡◌, ◌<◌, ◌^◌, ◌-◌, List, IfOk, IfErr, OnOk};
 ghost use Rattle.gk_base.specs.declared.term.Triple.{Triple as AnyTriple};
+ghost use Rattle.graph_rows.specs.Rows.{StandFor, AreFew};
 ghost use Rattle.gkey_cmd.specs.Matched.{IsReport, HasTooManyPairs};
-ghost use Rattle.gkey_cmd.specs.Reading.{MorePairsThan, refused_text};
-ghost use Rattle.gkey_cmd.specs.Rows.{StandFor, AreFew};
-ghost use Rattle.gkey_cmd.specs.Stops.{IsRightMatchStop, MatchEnds};
+ghost use Rattle.gkey_cmd.specs.MatchEnds.{IsRightMatchStop, MatchEnds};
 
-use crate::ending::Ending;
-use crate::numbering::number;
-use crate::rows::Rows;
+use crate::ending::{Ending, Refusal};
 use chase_laws::laws::law_rows;
-use gk_base::NoMemory;
+use gk_base::Stop;
+use graph_rows::{Rows, number};
 use key_lang::KeyFile;
 use match_run::classes;
 use pair_seed::SeedStop;
@@ -35,16 +33,6 @@ fn report_of(alloc: Global, rows: Rows, keys: &KeyFile, limit: u64) -> Result<Ve
     Ok(report.into_vec())
 }
 
-/// The error text where there are more candidate pairs than the limit.
-fn pairs_text(alloc: Global, limit: u64) -> Result<Vec<u8>, NoMemory>
-    ensures { IfOk result (λ text. text.items ≡ refused_text (MorePairsThan limit)) }
-{
-    let mut text = b"pairs: more than ".to_vec(alloc)?;
-    text.extend_from_slice(limit.to_string(alloc)?.as_bytes())?;
-    text.extend_from_slice(b"\n")?;
-    Ok(text)
-}
-
 /// The report of a match whose files are read, or the ending of a run that has none.
 pub fn match_files(alloc: Global, rows: Rows, keys: &KeyFile, limit: u64) -> Result<Vec<u8>, Ending>
     requires few { AreFew rows }
@@ -53,10 +41,7 @@ pub fn match_files(alloc: Global, rows: Rows, keys: &KeyFile, limit: u64) -> Res
 {
     match report_of(alloc, rows, keys, limit) {
         Ok(text) => Ok(text),
-        Err(SeedStop::NoMemory) => Err(Ending::NoMemory),
-        Err(SeedStop::TooManyPairs { .. }) => match pairs_text(alloc, limit) {
-            Ok(text) => Err(Ending::Refused(text)),
-            Err(NoMemory) => Err(Ending::NoMemory),
-        },
+        Err(Stop::NoMemory) => Err(Ending::NoMemory),
+        Err(Stop::Fault(_)) => Err(Ending::Refused(Refusal::MorePairsThan(limit))),
     }
 }

@@ -1,14 +1,12 @@
-//! The whole of a run.
+//! The whole of a run: from the words to what is written at its end.
 
-ghost use Rattle.std.specs.Prelude.{MatchResult};
-ghost use Rattle.gkey_cmd.specs.Commands.{Matching, wanted};
+ghost use Rattle.gkey_cmd.specs.Commands.{wanted};
 ghost use Rattle.gkey_cmd.specs.Written.{AreAtMostStandard};
-ghost use Rattle.gkey_cmd.specs.Causes.{Stopped, Caused};
+ghost use Rattle.gkey_cmd.specs.Endings.{Caused};
 ghost use Rattle.gkey_cmd.specs.Run.{IsRun};
 
 use crate::ending::{Answer, Ending, finish};
-use crate::matched::match_files;
-use crate::reading::{read_graph, read_keys};
+use crate::order::matched;
 use crate::words::{Command, read_words};
 use gk_base::{Limits, Text};
 use gk_io::{Shelf, Sink};
@@ -16,30 +14,13 @@ use std::alloc::Global;
 use std::sync::Wait;
 use std::thread::Threads;
 
-/// The report of `match`, or the ending of a run that has none.
-fn matched<S: Shelf>(
-    alloc: Global,
-    shelf: &mut S,
-    graph: &Text,
-    keys: &Text,
-    limits: &Limits,
-) -> Result<Vec<u8>, Ending>
-    requires { AreAtMostStandard limits.now }
-    ensures { let Stops = Stopped S.Shelf shelf.old shelf.new (Matching graph.now keys.now) limits.now in
-        MatchResult result (λ text. Stops (Ending.Done Answer.Given text)) Stops }
-{
-    let rows = read_graph(alloc, shelf, graph, limits)?;
-    let read = read_keys(alloc, shelf, keys, limits)?;
-    match_files(alloc, rows, &read, limits.pairs)
-}
-
 /// How a run ends before anything is written.
 fn decide<S: Shelf>(alloc: Global, words: &[Text], shelf: &mut S, limits: &Limits) -> Ending
     requires { AreAtMostStandard limits.now }
     ensures { Caused S.Shelf shelf.old shelf.new (wanted words.now) limits.now result }
 {
     let Some(Command::Match { graph, keys, .. }) = read_words(words) else {
-        return Ending::NoRow;
+        return Ending::NoCommand;
     };
     match matched(alloc, shelf, graph, keys, limits) {
         Ok(text) => Ending::Done(Answer::Given, text),
@@ -65,7 +46,7 @@ pub fn run_with<Rt: Threads + Wait + Sync, S: Shelf, O: Sink, E: Sink>(
     ensures { IsRun S.Shelf O.Sink E.Sink (wanted words.now) limits.now shelf.old shelf.new out.old out.new err.old err.new result }
 {
     let ending = decide(alloc, words, shelf, limits);
-    finish(&ending, out, err)
+    finish(alloc, &ending, out, err)
 }
 
 /// Does all that the program does, with its own limits, and gives the status: 0 where it is done, 2 where an input is

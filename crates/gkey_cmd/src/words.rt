@@ -1,4 +1,4 @@
-//! The commands, and the words that ask for them.
+//! The commands of the program, and the words that ask for them.
 
 ghost use Rattle.std.specs.Prelude.{◌≡◌, None, MatchOption};
 ghost use Rattle.gkey_cmd.specs.Commands.{wanted, IsCommand};

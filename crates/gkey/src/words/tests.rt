@@ -1,4 +1,5 @@
 use crate::words::{NoWords, words};
+use gk_base::Stop;
 use std::env::FillError;
 use std::rt::Env;
 use std::test::Fail;
@@ -68,5 +69,5 @@ fn a_call_that_never_gives_the_word_fails(rt: HostRuntime) {
         },
         rt.alloc(),
     );
-    assert!(rt; matches!(refused, Err(NoWords::Failed)));
+    assert!(rt; matches!(refused, Err(Stop::Fault(NoWords))));
 }

@@ -1,0 +1,102 @@
+-- How a run ends before anything is written, and what is written then: this project's own words.
+use Rattle.std.specs.Prelude.{List, ℕ, ◌≡◌, ◌⊎◌, Option, Some, None, IfSome, vec_items}
+use Rattle.gk_base.specs.declared.limits.Limits.{Limits}
+use Rattle.gk_base.specs.declared.read_fault.ReadRefusal.{ReadRefusal}
+use Rattle.gk_base.specs.declared.stop.Stop.{Stop}
+use Rattle.gk_base.specs.declared.stop.Stop.TheVariants as stop
+use Rattle.gk_io.specs.FailedAt.{FailedAt}
+use Rattle.gk_io.specs.declared.file_fault.FileFault.{FileFault}
+use Rattle.gk_io.specs.declared.file_fault.FileFault.TheVariants as fault
+use Rattle.gk_io.specs.declared.shelf.Shelf
+use Rattle.gk_io.specs.declared.sink.Sink
+use Rattle.key_lang.specs.declared.fault.KeyRefusal.{KeyRefusal}
+use Rattle.graph_rows.specs.GraphFile.{GraphStops}
+use Rattle.gkey_cmd.specs.Commands.{Wanted}
+use Rattle.gkey_cmd.specs.Texts.{usage, out_of_memory, write_failed, read_failed, refused_text}
+use Rattle.gkey_cmd.specs.Reading.{IsRefusedSo, AllAccepted}
+use Rattle.gkey_cmd.specs.HowFar.{KeysLeft, LeavesFiles, StopsReading}
+use Rattle.gkey_cmd.specs.Failing.{HasFailed}
+use Rattle.gkey_cmd.specs.Sent.{TookAll, TookLess, Sent}
+use Rattle.gkey_cmd.specs.Written.{status_of, IsRefused, IsAnswered}
+use Rattle.gkey_cmd.specs.declared.file.File.{File}
+use Rattle.gkey_cmd.specs.declared.file.File.TheVariants.{Graph, Keys}
+use Rattle.gkey_cmd.specs.declared.ending.Refusal.{Refusal}
+use Rattle.gkey_cmd.specs.declared.ending.Refusal.TheVariants.{InGraph, InKeys, MorePairsThan}
+use Rattle.gkey_cmd.specs.declared.ending.Ending.{Ending}
+use Rattle.gkey_cmd.specs.declared.ending.Ending.TheVariants.{NoCommand, Failed, Refused, NoMemory, Done}
+
+-- ---- what stopped the reading of a file, as an ending
+
+-- the ending of a run whose graph is not to be had
+abbrev pub graph_ending : Stop (FileFault ReadRefusal) → Ending
+graph_ending stop.NoMemory = NoMemory
+graph_ending (stop.Fault fault.Failed) = Failed Graph
+graph_ending (stop.Fault (fault.Refused refusal)) = Refused (InGraph refusal)
+
+-- the ending of a run whose key file says no keys
+abbrev pub keys_ending : Stop KeyRefusal → Ending
+keys_ending stop.NoMemory = NoMemory
+keys_ending (stop.Fault refusal) = Refused (InKeys refusal)
+
+-- how far a file was read that is refused so
+abbrev pub StopsAt : {K : Type 0} (shelf : Shelf.Ghosts K) (shelf_before shelf_after : K) → Limits → File → (name : List ℕ) → Refusal → Type 0
+StopsAt shelf shelf_before shelf_after limits Graph name (InGraph refusal) = GraphStops shelf shelf_before shelf_after limits name
+StopsAt shelf shelf_before shelf_after limits Graph name (InKeys refusal) = ⊥
+StopsAt shelf shelf_before shelf_after limits Graph name (MorePairsThan limit) = ⊥
+StopsAt shelf shelf_before shelf_after limits Keys name (InGraph refusal) = ⊥
+StopsAt shelf shelf_before shelf_after limits Keys name (InKeys refusal) = KeysLeft shelf shelf_before shelf_after limits name
+StopsAt shelf shelf_before shelf_after limits Keys name (MorePairsThan limit) = ⊥
+
+-- this file was read under this name, and the run ends at it
+abbrev pub EndsAt : {K : Type 0} (shelf : Shelf.Ghosts K) (shelf_before shelf_after : K) → Limits → File → (name : List ℕ) → Ending → Type 0
+EndsAt shelf shelf_before shelf_after limits file name NoCommand = ⊥
+EndsAt shelf shelf_before shelf_after limits file name (Failed which) = (which ≡ file) × FailedAt shelf shelf_before shelf_after name
+EndsAt shelf shelf_before shelf_after limits file name (Refused refusal) = (shelf.faults shelf_after ≡ shelf.faults shelf_before)
+    × IfSome (shelf.held shelf_before) (λ files. IsRefusedSo limits files file name refusal)
+    × StopsAt shelf shelf_before shelf_after limits file name refusal
+EndsAt shelf shelf_before shelf_after limits file name NoMemory = shelf.faults shelf_after ≡ shelf.faults shelf_before
+EndsAt shelf shelf_before shelf_after limits file name (Done answer text) = ⊥
+
+-- ---- how a run ends
+
+-- How a command ends before anything is written. A shelf that tells no files says nothing of them.
+abbrev pub Stopped : {K : Type 0} (shelf : Shelf.Ghosts K) (shelf_before shelf_after : K) → Wanted → Limits → Ending → Type 0
+Stopped shelf shelf_before shelf_after command limits NoCommand = ⊥
+Stopped shelf shelf_before shelf_after command limits (Failed file) = HasFailed shelf shelf_before shelf_after command limits file
+Stopped shelf shelf_before shelf_after command limits (Refused refusal) = (shelf.faults shelf_after ≡ shelf.faults shelf_before)
+    × IfSome (shelf.held shelf_before) (λ files. IsRefused (Some command) files limits refusal)
+    × StopsReading shelf shelf_before shelf_after (Some command) limits refusal
+Stopped shelf shelf_before shelf_after command limits NoMemory = shelf.faults shelf_after ≡ shelf.faults shelf_before
+Stopped shelf shelf_before shelf_after command limits (Done answer text) = (shelf.faults shelf_after ≡ shelf.faults shelf_before)
+    × IfSome (shelf.held shelf_before) (λ files. IsAnswered (Some command) files limits answer (vec_items text))
+    × LeavesFiles shelf shelf_before shelf_after command limits
+
+-- how a run ends before anything is written
+abbrev pub Caused : {K : Type 0} (shelf : Shelf.Ghosts K) (shelf_before shelf_after : K) → Option Wanted → Limits → Ending → Type 0
+Caused shelf shelf_before shelf_after command limits NoCommand = (command ≡ None) × (shelf.faults shelf_after ≡ shelf.faults shelf_before)
+Caused shelf shelf_before shelf_after command limits ending = (wanted : Wanted) × (command ≡ Some wanted) × Stopped shelf shelf_before shelf_after wanted limits ending
+
+-- the files so far were read and accepted
+pub record ReadSoFar {K : Type 0} (shelf : Shelf.Ghosts K) (shelf_before shelf_now : K) (limits : Limits) (so_far : List (File × List ℕ)) : Type 0 where
+  pub count : shelf.faults shelf_now ≡ shelf.faults shelf_before
+  pub held : shelf.held shelf_now ≡ shelf.held shelf_before
+  pub accepted : IfSome (shelf.held shelf_before) (λ files. AllAccepted limits files so_far)
+
+-- ---- what is written at the end
+
+-- what is left when an ending was told: the status, what standard output took, and what the error stream was sent
+abbrev pub IsReportedAs : {O E : Type 0} (out : Sink.Ghosts O) (err : Sink.Ghosts E) (out_before out_after : O) (err_before err_after : E) → Ending → (status : ℕ) → Type 0
+IsReportedAs out err out_before out_after err_before err_after NoCommand status = (status ≡ 64) × (out_after ≡ out_before) × Sent err err_before err_after usage
+IsReportedAs out err out_before out_after err_before err_after (Failed file) status = (status ≡ 3) × (out_after ≡ out_before) × Sent err err_before err_after (read_failed file)
+IsReportedAs out err out_before out_after err_before err_after (Refused refusal) status = (status ≡ 2) × (out_after ≡ out_before) × Sent err err_before err_after (refused_text refusal)
+IsReportedAs out err out_before out_after err_before err_after NoMemory status = (status ≡ 5) × (out_after ≡ out_before) × Sent err err_before err_after out_of_memory
+IsReportedAs out err out_before out_after err_before err_after (Done answer text) status =
+    ((status ≡ status_of answer) × TookAll out out_before out_after (vec_items text) × (err_after ≡ err_before))
+    ⊎ ((status ≡ 4) × TookLess out out_before out_after (vec_items text) × Sent err err_before err_after write_failed)
+
+-- the ending was told; or it is a refusal, no memory was to be had for its text, and that was told instead
+abbrev pub IsTold : {O E : Type 0} (out : Sink.Ghosts O) (err : Sink.Ghosts E) (out_before out_after : O) (err_before err_after : E) → Ending → (status : ℕ) → Type 0
+IsTold out err out_before out_after err_before err_after (Refused refusal) status =
+    IsReportedAs out err out_before out_after err_before err_after (Refused refusal) status
+    ⊎ IsReportedAs out err out_before out_after err_before err_after NoMemory status
+IsTold out err out_before out_after err_before err_after ending status = IsReportedAs out err out_before out_after err_before err_after ending status

@@ -1,0 +1,43 @@
+-- The texts of the error stream: this project's own.
+use Rattle.std.specs.Prelude.{List, ℕ, ◌++◌, codes}
+use Rattle.std.specs.Fmt.{decimal}
+use Rattle.gk_base.specs.Faults.{read_text}
+use Rattle.key_lang.specs.Faults.{key_fault_text}
+use Rattle.gkey_cmd.specs.declared.file.File.{File}
+use Rattle.gkey_cmd.specs.declared.file.File.TheVariants.{Graph, Keys}
+use Rattle.gkey_cmd.specs.declared.ending.Refusal.{Refusal}
+use Rattle.gkey_cmd.specs.declared.ending.Refusal.TheVariants.{InGraph, InKeys, MorePairsThan}
+
+-- the usage text
+abbrev pub usage : List ℕ
+usage = codes "usage:\n  gkey match GRAPH KEYS\n"
+
+-- the texts of want of memory and of a failed write
+abbrev pub out_of_memory : List ℕ
+out_of_memory = codes "out of memory\n"
+
+abbrev pub write_failed : List ℕ
+write_failed = codes "output: write failed\n"
+
+-- what a text calls a file
+abbrev pub file_text : File → List ℕ
+file_text Graph = codes "graph"
+file_text Keys = codes "keys"
+
+-- the text of a file that could not be found or read
+abbrev pub read_failed : File → List ℕ
+read_failed file = file_text file ++ codes ": read failed\n"
+
+-- the text of a refused line, with its number
+abbrev pub line_text : File → ℕ → List ℕ → List ℕ
+line_text file line fault = file_text file ++ codes ":" ++ decimal line ++ codes ": " ++ fault ++ codes "\n"
+
+-- the text of more candidate pairs than a limit
+abbrev pub pairs_text : ℕ → List ℕ
+pairs_text limit = codes "pairs: more than " ++ decimal limit ++ codes "\n"
+
+-- the text of a refusal
+abbrev pub refused_text : Refusal → List ℕ
+refused_text (InGraph refusal) = line_text Graph refusal.line (read_text refusal.fault)
+refused_text (InKeys refusal) = line_text Keys refusal.line (key_fault_text refusal.fault)
+refused_text (MorePairsThan limit) = pairs_text limit

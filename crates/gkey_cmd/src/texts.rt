@@ -1,0 +1,94 @@
+//! Each status of the program, with its meaning and the text that goes to the error stream with it. No other file has such a
+//! status or text, but that what is wrong with a line is said by the fault itself, in `gk_base` and `key_lang`.
+
+ghost use Rattle.std.specs.Prelude.{◌≡◌, IfOk};
+ghost use Rattle.gkey_cmd.specs.Texts.{file_text, read_failed, line_text, pairs_text, refused_text};
+
+use crate::ending::Refusal;
+use crate::file::File;
+use gk_base::NoMemory;
+use std::alloc::Global;
+
+/// The command did what it is for. Its answer goes to the output, and the error stream gets no text.
+pub(crate) const DONE: u8 = 0;
+
+/// An input is refused. The text, `refused_text`, says which and why.
+pub(crate) const REFUSED: u8 = 2;
+
+/// A file could not be found or read. The text, `read_failed`, says which.
+pub(crate) const UNREAD: u8 = 3;
+
+/// The output could not be written whole. The text is `WRITE_FAILED`.
+pub(crate) const UNWRITTEN: u8 = 4;
+
+/// The text of `UNWRITTEN`.
+pub(crate) const WRITE_FAILED: &[u8] = b"output: write failed\n";
+
+/// No memory was to be had. The text is `OUT_OF_MEMORY`; where there was none for the words of the program, there is no text.
+pub const NO_MEMORY: u8 = 5;
+
+/// The text of `NO_MEMORY`.
+pub(crate) const OUT_OF_MEMORY: &[u8] = b"out of memory\n";
+
+/// The system did not give the program its words. `run` can't come to this, and the error stream gets no text.
+pub const NO_WORDS: u8 = 6;
+
+/// The words ask for no command. The text is `USAGE`.
+pub(crate) const NO_COMMAND: u8 = 64;
+
+/// The text of `NO_COMMAND`.
+pub(crate) const USAGE: &[u8] = b"usage:\n  gkey match GRAPH KEYS\n";
+
+/// What a text calls a file.
+fn file_text(file: File) -> &'static [u8]
+    ensures { result.now ≡ file_text file }
+{
+    match file {
+        File::Graph => b"graph",
+        File::Keys => b"keys",
+    }
+}
+
+/// The text of a file that could not be found or read.
+pub(crate) fn read_failed(file: File) -> &'static [u8]
+    ensures { result.now ≡ read_failed file }
+{
+    match file {
+        File::Graph => b"graph: read failed\n",
+        File::Keys => b"keys: read failed\n",
+    }
+}
+
+/// The text of a line that is refused, with its number from 1.
+fn line_text(alloc: Global, file: File, line: u64, fault: &[u8]) -> Result<Vec<u8>, NoMemory>
+    ensures { IfOk result (λ text. text.items ≡ line_text file line fault.now) }
+{
+    let mut text = file_text(file).to_vec(alloc)?;
+    text.extend_from_slice(b":")?;
+    text.extend_from_slice(line.to_string(alloc)?.as_bytes())?;
+    text.extend_from_slice(b": ")?;
+    text.extend_from_slice(fault)?;
+    text.extend_from_slice(b"\n")?;
+    Ok(text)
+}
+
+/// The text of more candidate pairs than the limit.
+fn pairs_text(alloc: Global, limit: u64) -> Result<Vec<u8>, NoMemory>
+    ensures { IfOk result (λ text. text.items ≡ pairs_text limit) }
+{
+    let mut text = b"pairs: more than ".to_vec(alloc)?;
+    text.extend_from_slice(limit.to_string(alloc)?.as_bytes())?;
+    text.extend_from_slice(b"\n")?;
+    Ok(text)
+}
+
+/// The text of a refusal.
+pub(crate) fn refused_text(alloc: Global, refusal: Refusal) -> Result<Vec<u8>, NoMemory>
+    ensures { IfOk result (λ text. text.items ≡ refused_text refusal) }
+{
+    match refusal {
+        Refusal::InGraph(at) => line_text(alloc, File::Graph, at.line, at.fault.text()),
+        Refusal::InKeys(at) => line_text(alloc, File::Keys, at.line, at.fault.text()),
+        Refusal::MorePairsThan(limit) => pairs_text(alloc, limit),
+    }
+}

@@ -1,0 +1,4 @@
+mod Told
+mod NumberedRows
+mod FeedingLemmas
+pub mod CallerLemmas

@@ -1,0 +1,62 @@
+-- What the private functions answer that read a file piece by piece: this project's own words.
+use Rattle.std.specs.Prelude.{List, [], ℕ, ◌≡◌, ◌≤◌, ◌+◌, ◌++◌, length, take, Result, Ok, Err, IsOk, IfSome, IsSomeAnd, IsTrue}
+use Rattle.gk_base.specs.declared.limits.Limits.{Limits}
+use Rattle.gk_base.specs.declared.read_fault.ReadRefusal.{ReadRefusal}
+use Rattle.gk_base.specs.declared.stop.Stop.{Stop}
+use Rattle.gk_base.specs.declared.stop.Stop.TheVariants.{NoMemory, Fault}
+use Rattle.gk_base.specs.declared.term.Triple.{Triple}
+use Rattle.gk_io.specs.Cause.{Rose}
+use Rattle.gk_io.specs.declared.failed.Failed as device
+use Rattle.gk_io.specs.declared.file_fault.FileFault.{FileFault}
+use Rattle.gk_io.specs.declared.file_fault.FileFault.TheVariants.{Failed, Refused}
+use Rattle.gk_io.specs.declared.shelf.Shelf
+use Rattle.nt_reader.specs.File.{IsOpen, Refuses}
+use Rattle.nt_reader.specs.Reading.{Reading}
+use Rattle.nt_reader.specs.Kept.{HasRead}
+use Rattle.graph_rows.specs.Rows.{StandFor}
+use Rattle.graph_rows.specs.declared.rows.Rows.{Rows}
+
+-- the shelf failed, whichever file was asked for last
+abbrev pub ShelfFails : {K : Type 0} (shelf : Shelf.Ghosts K) (before after : K) → Type 0
+ShelfFails shelf before after = Rose (shelf.faults before) (shelf.faults after) × IsTrue (shelf.bad after)
+
+-- a read stopped for want of memory, while the shelf did not fail, or because it failed
+abbrev pub ReadStops : {K : Type 0} (shelf : Shelf.Ghosts K) (before after : K) → Stop device.Failed → Type 0
+ReadStops shelf before after NoMemory = shelf.faults after ≡ shelf.faults before
+ReadStops shelf before after (Fault failed) = ShelfFails shelf before after
+
+-- these bytes were read, where the shelf tells its bytes
+abbrev pub WereRead : {K : Type 0} (shelf : Shelf.Ghosts K) (before after : K) → List ℕ → Type 0
+WereRead shelf before after gone = IfSome (shelf.rest before) (λ all. IsSomeAnd (shelf.rest after) (λ rest. all ≡ gone ++ rest))
+
+-- there were no others
+abbrev pub AreAll : {K : Type 0} (shelf : Shelf.Ghosts K) (before : K) → List ℕ → Type 0
+AreAll shelf before gone = IfSome (shelf.rest before) (λ all. all ≡ gone)
+
+-- this piece was read, through a buffer with this room, and fed to a reader
+pub record Feeds {K : Type 0} (shelf : Shelf.Ghosts K) (before after : K) (room : ℕ) (reader fed_reader : Reading) (piece : List ℕ) : Type 0 where
+  pub count : shelf.faults after ≡ shelf.faults before
+  pub read : WereRead shelf before after piece
+  pub within : length piece ≤ room
+  pub fed : (taken : List Triple) (seen : List ℕ) → HasRead reader taken seen → HasRead fed_reader taken (seen ++ piece)
+
+-- a piece of so many bytes was read and fed, or why not
+abbrev pub FeedsNext : {K : Type 0} (shelf : Shelf.Ghosts K) (before after : K) (room : ℕ) (reader fed_reader : Reading) → Result ℕ (Stop (FileFault ReadRefusal)) → Type 0
+FeedsNext shelf before after room reader fed_reader (Ok n) = (piece : List ℕ) × Feeds shelf before after room reader fed_reader piece
+    × (n ≡ length piece) × ((taken : List Triple) (seen : List ℕ) → HasRead reader taken seen → IsOpen reader.limits (seen ++ piece))
+    × IsOk reader.so_far × IsOk fed_reader.so_far × (n ≡ 0 → AreAll shelf before [])
+FeedsNext shelf before after room reader fed_reader (Err NoMemory) = shelf.faults after ≡ shelf.faults before
+FeedsNext shelf before after room reader fed_reader (Err (Fault Failed)) = ShelfFails shelf before after
+FeedsNext shelf before after room reader fed_reader (Err (Fault (Refused refusal))) = (piece : List ℕ) × Feeds shelf before after room reader fed_reader piece
+    × ((taken : List Triple) (bytes : List ℕ) → HasRead fed_reader taken bytes → Refuses fed_reader.limits bytes refusal)
+
+-- all that was left was read, fed and numbered, or why not
+abbrev pub FeedsAll : {K A : Type 0} (shelf : Shelf.Ghosts K) (before after : K) (limits : Limits) (fed_reader : Reading) (rows : Rows) → Result A (Stop (FileFault ReadRefusal)) → Type 0
+FeedsAll shelf before after limits fed_reader rows (Ok x) = (shelf.faults after ≡ shelf.faults before)
+    × ((taken : List Triple) × (gone : List ℕ) × WereRead shelf before after gone × AreAll shelf before gone × IsOpen limits gone
+    × HasRead fed_reader taken gone × StandFor rows taken)
+FeedsAll shelf before after limits fed_reader rows (Err NoMemory) = shelf.faults after ≡ shelf.faults before
+FeedsAll shelf before after limits fed_reader rows (Err (Fault Failed)) = ShelfFails shelf before after
+FeedsAll shelf before after limits fed_reader rows (Err (Fault (Refused refusal))) = (shelf.faults after ≡ shelf.faults before)
+    × ((gone : List ℕ) × WereRead shelf before after gone × Refuses limits gone refusal
+    × ((n : ℕ) → n + 65536 ≤ length gone → IsOpen limits (take n gone)))

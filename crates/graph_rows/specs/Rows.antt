@@ -1,0 +1,16 @@
+-- Triples in numbers: this project's own words.
+use Rattle.std.specs.Prelude.{List, map, length, ◌≡◌, ◌≤◌, ◌^◌}
+use Rattle.gk_base.specs.declared.term.Triple.{Triple}
+use Rattle.term_table.specs.Numbering.{names_of}
+use Rattle.term_list.specs.Triples.{terms_of}
+use Rattle.key_file.specs.Numbered.{row_of}
+use Rattle.graph_rows.specs.declared.rows.Rows.{Rows}
+
+-- The rows are these triples in numbers, and the names are the distinct terms of the triples, in their order.
+pub record StandFor (r : Rows) (triples : List Triple) : Type 0 where
+  pub names : r.names ≡ names_of (terms_of triples)
+  pub rows : r.rows.items ≡ map (row_of r.names) triples
+
+-- they stand for triples that are no more than a graph may have
+abbrev pub AreFew : Rows → Type 0
+AreFew r = (triples : List Triple) × StandFor r triples × (length triples ≤ 2 ^ 22)

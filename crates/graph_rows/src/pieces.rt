@@ -1,0 +1,91 @@
+//! A graph's rows, read piece by piece and numbered as they come: from a shelf's file to rows and names, or what stopped it.
+
+ghost use Rattle.std.specs.Prelude.{◌≡◌, ◌+◌, ◌<◌, ◌≤◌, ◌^◌, [], length};
+ghost use Rattle.nt_reader.specs.Kept.{HasRead};
+ghost use Rattle.graph_rows.specs.Rows.{StandFor};
+ghost use Rattle.graph_rows.specs.GraphFile.{GivesRows};
+ghost use Rattle.graph_rows.specs.Feeding.{FeedsNext, FeedsAll};
+
+use crate::loading::buffer;
+use crate::rows::Rows;
+use gk_base::{Limits, ReadRefusal, Text};
+use gk_io::{FileStop, Shelf, file_stop};
+use nt_reader::Reader;
+use std::alloc::Global;
+use term_list::Triples;
+
+/// Reads the next piece and feeds it, and answers how many bytes it has: none only at the end.
+fn feed_next<S: Shelf>(
+    shelf: &mut S,
+    buf: &mut [u8],
+    reader: &mut Reader,
+) -> Result<usize, FileStop<ReadRefusal>>
+    requires { 0 < length buf.old }
+    ensures held { S.held shelf.new ≡ S.held shelf.old }
+    ensures asked { S.asked shelf.new ≡ S.asked shelf.old }
+    ensures limits { reader.new.limits ≡ reader.old.limits }
+    ensures feeds { FeedsNext S.Shelf shelf.old shelf.new (length buf.old) reader.old reader.new result }
+{
+    let count = shelf.read(buf)?;
+    reader.feed(&buf[..count]).map_err(file_stop)?;
+    Ok(count)
+}
+
+/// Reads on to the end of the file. Each piece is fed, and the triples that it ends are numbered, before the next is read.
+/// They pass through the one list of triples.
+fn feed_all<S: Shelf>(
+    shelf: &mut S,
+    buf: &mut [u8],
+    reader: &mut Reader,
+    triples: &mut Triples,
+    rows: &mut Rows,
+) -> Result<(), FileStop<ReadRefusal>>
+    requires some { 0 < length buf.old }
+    requires few { length buf.old ≤ 65536 }
+    requires limit { reader.old.limits.triples ≤ 2 ^ 22 }
+    requires fresh { HasRead reader.old [] [] }
+    requires none { triples.old ≡ [] }
+    requires empty { StandFor rows.old [] }
+    ensures held { S.held shelf.new ≡ S.held shelf.old }
+    ensures asked { S.asked shelf.new ≡ S.asked shelf.old }
+    ensures limits { reader.new.limits ≡ reader.old.limits }
+    ensures feeds { FeedsAll S.Shelf shelf.old shelf.new reader.old.limits reader.new rows.new result }
+{
+    'pieces: loop {
+        let count = feed_next(shelf, buf, reader)?;
+        reader.take_triples(triples);
+        rows.add(triples)?;
+        if count == 0 {
+            return Ok(());
+        }
+    }
+}
+
+/// The rows and names of the graph of this name. The file is read piece by piece, and no further once it is refused: of the
+/// limits, those of bytes and of triples count.
+///
+/// - `NoMemory` may come at any time, and says nothing of the file.
+/// - `FileFault::Failed`: the shelf could not find the file, or could not read it to its end.
+/// - `FileFault::Refused`: the first line that is faulty or beyond a limit, and why.
+pub fn read_rows<S: Shelf>(
+    alloc: Global,
+    shelf: &mut S,
+    name: &Text,
+    limits: &Limits,
+) -> Result<Rows, FileStop<ReadRefusal>>
+    requires bytes { limits.now.bytes + 1 < 2 ^ 64 }
+    requires triples { limits.now.triples ≤ 2 ^ 22 }
+    ensures held { S.held shelf.new ≡ S.held shelf.old }
+    ensures gives { GivesRows S.Shelf shelf.old shelf.new limits.now name.now result }
+{
+    let mut buf = buffer(alloc)?;
+    shelf.find(name.copy()?)?;
+    let mut reader = Reader::new(alloc, limits);
+    let mut rows = Rows::new(alloc, shelf.hash_seed());
+    rows.expect(shelf.size_hint());
+    let mut triples = Triples::new(alloc);
+    feed_all(shelf, &mut buf, &mut reader, &mut triples, &mut rows)?;
+    let mut last = reader.finish().map_err(file_stop)?;
+    rows.add(&mut last)?;
+    Ok(rows)
+}
