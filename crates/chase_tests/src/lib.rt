@@ -1,0 +1,20 @@
+//! Tests of lists, books of classes, chases and whole matches, over the graphs and patterns of `fixtures`. They stand in a
+//! crate of their own, since a crate with tests is proved twice.
+//!
+//! - `lists`: lists of cells
+//! - `books`: a book of classes
+//! - `hands`: pairs in hand, and steps with them
+//! - `plays`: chases that are played step by step, with two pairs in hand at once
+//! - `wholes`: whole matches
+#![tactic(auto)]
+
+#[cfg(test)]
+mod books;
+#[cfg(test)]
+mod hands;
+#[cfg(test)]
+mod lists;
+#[cfg(test)]
+mod plays;
+#[cfg(test)]
+mod wholes;

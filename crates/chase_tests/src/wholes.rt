@@ -1,0 +1,133 @@
+//! Whole matches.
+
+use fixtures::worked_graphs::albums;
+use fixtures::worked_patterns::{ALBUM_BY, ARTIST, NAME_AND_CODE};
+use fixtures::{GraphTable, PatternTable, patterns_of};
+use match_run::{classes, prepare};
+use pair_seed::{SeedStop, TooManyPairs};
+use std::alloc::Global;
+use std::process::Abort;
+use std::test::Fail;
+
+/// Whether labels are equal exactly where these numbers are.
+fn are_labels(labels: &[u32], wanted: &[u32]) -> bool {
+    if labels.len() != wanted.len() {
+        return false;
+    }
+    for (label, want) in labels.iter().zip(wanted) {
+        for (other_label, other_want) in labels.iter().zip(wanted) {
+            if (label == other_label) != (want == other_want) {
+                return false;
+            }
+        }
+    }
+    true
+}
+
+/// Whether the classes of a graph by a case's keys are those of the case.
+fn has_classes(alloc: Global, table: &GraphTable<'_>, case: &Case) -> Result<bool, Fail> {
+    let graph = table.build(alloc)?;
+    let keys = patterns_of(alloc, case.keys)?;
+    let labels = classes(alloc, graph, keys, u64::from(case.limit))?;
+    Ok(are_labels(&labels, case.wanted))
+}
+
+/// How many candidate pairs the albums have by all keys, or how many are told where there are too many.
+fn seeded(alloc: Global, limit: u32) -> Result<Result<u64, u64>, Fail> {
+    let graph = albums().build(alloc)?;
+    let keys = patterns_of(alloc, together().keys)?;
+    match prepare(alloc, graph, keys, u64::from(limit)) {
+        Ok(prepared) => Ok(Ok(prepared.seeded)),
+        Err(SeedStop::Fault(TooManyPairs { found })) => Ok(Err(found)),
+        Err(SeedStop::NoMemory) => Ok(Err(0)),
+    }
+}
+
+/// Keys, and classes by numbers.
+struct Case {
+    keys: &'static [PatternTable<'static>],
+    limit: u32,
+    wanted: &'static [u32],
+}
+
+/// By all keys: the two pairs of albums and the pair of artists.
+static TOGETHER: Case = Case {
+    keys: &[ARTIST, ALBUM_BY, NAME_AND_CODE],
+    limit: 3,
+    wanted: &[0, 1, 2, 0, 4, 5, 6, 7, 8, 8, 10, 11, 12, 13, 13, 15],
+};
+
+/// Two keys that only support each other.
+static APART: Case = Case {
+    keys: &[ARTIST, ALBUM_BY],
+    limit: 3,
+    wanted: &[0, 1, 2, 3, 4, 5, 6, 7, 8, 9, 10, 11, 12, 13, 14, 15],
+};
+
+/// One key, which finds one pair of albums.
+static BY_YEAR: Case = Case {
+    keys: &[NAME_AND_CODE],
+    limit: 1,
+    wanted: &[0, 1, 2, 0, 4, 5, 6, 7, 8, 9, 10, 11, 12, 13, 14, 15],
+};
+
+static BY_NO_KEY: Case = Case {
+    keys: &[],
+    limit: 0,
+    wanted: &[0, 1, 2, 3, 4, 5, 6, 7, 8, 9, 10, 11, 12, 13, 14, 15],
+};
+
+// The cases, behind functions, so that the proofs of the tests do not see them.
+
+fn together() -> &'static Case {
+    &TOGETHER
+}
+
+fn apart() -> &'static Case {
+    &APART
+}
+
+fn by_year() -> &'static Case {
+    &BY_YEAR
+}
+
+fn by_no_key() -> &'static Case {
+    &BY_NO_KEY
+}
+
+#[test]
+fn keys_support_one_another_in_any_order_of_rows(rt: HostRuntime) -> Result<(), Fail> {
+    let alloc = rt.alloc();
+    let table = albums();
+    assert!(rt; has_classes(alloc, &table, together())?);
+    let mut rows = table.rows.to_vec(alloc)?;
+    rows.reverse();
+    let reversed = GraphTable {
+        rows: &rows,
+        ..table
+    };
+    assert!(rt; has_classes(alloc, &reversed, together())?);
+    Ok(())
+}
+
+#[test]
+fn candidate_pairs_are_counted_against_the_limit(rt: HostRuntime) -> Result<(), Fail> {
+    for (limit, wanted) in [(4, Ok(3)), (3, Ok(3)), (2, Err(3)), (0, Err(1))] {
+        let is = seeded(rt.alloc(), limit)? == wanted;
+        assert!(rt; is, "limit {limit}");
+    }
+    Ok(())
+}
+
+#[test]
+fn pairs_that_only_support_each_other_stay_apart(rt: HostRuntime) -> Result<(), Fail> {
+    assert!(rt; has_classes(rt.alloc(), &albums(), apart())?);
+    Ok(())
+}
+
+#[test]
+fn one_key_finds_its_own_pair(rt: HostRuntime) -> Result<(), Fail> {
+    assert!(rt; has_classes(rt.alloc(), &albums(), by_year())?);
+    assert!(rt; has_classes(rt.alloc(), &albums(), by_no_key())?);
+    Ok(())
+}

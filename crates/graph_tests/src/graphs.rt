@@ -1,0 +1,153 @@
+//! A graph and its look-ups.
+
+use fixtures::{GraphTable, TableStop, Unfit};
+use gk_base::Stop;
+use std::alloc::Global;
+use std::process::Abort;
+use std::test::Fail;
+use typed_graph::ascending::{above, holds};
+use typed_graph::{Graph, Index};
+
+/// Three rows, of which two are the same.
+fn repeated() -> GraphTable<'static> {
+    GraphTable {
+        names: 4,
+        rows: &[[0, 1, 3], [0, 1, 2], [0, 1, 2]],
+        literals: &[2, 3],
+        rdf_type: None,
+        alike: &[],
+    }
+}
+
+#[test]
+fn rows_are_sorted_and_each_is_kept_once(rt: HostRuntime) -> Result<(), Fail> {
+    let graph = repeated().build(rt.alloc())?;
+    assert_eq!(rt; graph.rows(), [[0, 1, 2], [0, 1, 3]].as_slice());
+    assert_eq!(rt; graph.names(), 4);
+    assert_eq!(rt; graph.outgoing(0, 1), [2, 3].as_slice());
+    assert_eq!(rt; graph.incoming(2, 1), [0].as_slice());
+    assert!(rt; !graph.is_entity(1) && graph.is_entity(0) && !graph.is_entity(2));
+    assert!(rt; graph.with_type(1).is_empty() && !graph.has_type(0, 2));
+    Ok(())
+}
+
+/// Two entities of type 2 with two literals, which are alike.
+fn typed() -> GraphTable<'static> {
+    GraphTable {
+        names: 7,
+        rows: &[[3, 4, 6], [3, 1, 2], [0, 4, 5], [0, 1, 2]],
+        literals: &[5, 6],
+        rdf_type: Some(1),
+        alike: &[(6, 5)],
+    }
+}
+
+/// Whether nothing is said of a number that is no name.
+fn is_no_name(graph: &Graph, n: u32) -> bool {
+    graph.outgoing(n, 1).is_empty()
+        && graph.outgoing(0, n).is_empty()
+        && graph.incoming(n, 1).is_empty()
+        && graph.with_type(n).is_empty()
+        && !graph.has(n, 1, 2)
+        && !graph.has_type(n, 2)
+        && !graph.has_type(0, n)
+        && !graph.is_entity(n)
+        && !graph.is_literal(n)
+}
+
+#[test]
+fn look_ups_answer_for_every_number(rt: HostRuntime) -> Result<(), Fail> {
+    let graph = typed().build(rt.alloc())?;
+    assert_eq!(rt; graph.with_type(2), [0, 3].as_slice());
+    assert!(rt; graph.has_type(3, 2) && !graph.has_type(2, 3) && !graph.has_type(5, 2));
+    assert!(rt; graph.has(3, 4, 6) && !graph.has(3, 4, 5) && !graph.has(6, 4, 3));
+    assert!(rt;
+        graph.is_entity(2) && !graph.is_entity(1) && !graph.is_entity(4) && !graph.is_entity(6)
+    );
+    assert!(rt; graph.is_literal(6) && !graph.is_literal(3));
+    assert_eq!(rt; graph.names(), 7);
+    assert_eq!(rt; graph.alike(6), 5);
+    assert!(rt; is_no_name(&graph, 7) && is_no_name(&graph, 4_294_967_295));
+    Ok(())
+}
+
+/// A table that makes a graph.
+const FIT: GraphTable<'static> = GraphTable {
+    names: 3,
+    rows: &[[0, 0, 1]],
+    literals: &[1, 2],
+    rdf_type: Some(2),
+    alike: &[(2, 1)],
+};
+
+/// Tables that make none: a row, `rdf:type` or a literal that is no name, and a name that is alike to a later one, to
+/// what is no literal, or to another though it is no literal.
+static UNFIT: [GraphTable<'static>; 6] = [
+    GraphTable {
+        rows: &[[0, 0, 3]],
+        ..FIT
+    },
+    GraphTable {
+        rdf_type: Some(3),
+        ..FIT
+    },
+    GraphTable {
+        names: 2,
+        rows: &[],
+        rdf_type: None,
+        alike: &[],
+        ..FIT
+    },
+    GraphTable {
+        alike: &[(1, 2)],
+        ..FIT
+    },
+    GraphTable {
+        alike: &[(1, 0)],
+        ..FIT
+    },
+    GraphTable {
+        names: 2,
+        rows: &[],
+        literals: &[],
+        rdf_type: None,
+        alike: &[(1, 0)],
+    },
+];
+
+/// The tables that make a graph, and those that make none.
+fn tables() -> (GraphTable<'static>, &'static [GraphTable<'static>]) {
+    (FIT, &UNFIT)
+}
+
+/// Whether a table is unfit.
+fn is_unfit(alloc: Global, table: &GraphTable<'_>) -> bool {
+    match table.build(alloc) {
+        Ok(_) => false,
+        Err(stop) => stop == Stop::Fault(Unfit),
+    }
+}
+
+#[test]
+fn parts_that_make_no_graph_are_told(rt: HostRuntime) -> Result<(), TableStop> {
+    let (fit, unfit) = tables();
+    assert_eq!(rt; fit.build(rt.alloc())?.names(), 3);
+    for (place, table) in unfit.iter().enumerate() {
+        assert!(rt; is_unfit(rt.alloc(), table), "table {place}");
+    }
+    Ok(())
+}
+
+#[test]
+fn an_index_finds_rows_by_two_numbers(rt: HostRuntime) -> Result<(), Fail> {
+    let rows = [[2, 9, 7], [0, 5, 8], [2, 9, 3], [2, 9, 7]];
+    let index = Index::build(rt.alloc(), rows.to_vec(rt.alloc())?, 3)?;
+    assert_eq!(rt; index.find(2, 9), [3, 7].as_slice());
+    assert!(rt;
+        index.find(2, 5).is_empty() && index.find(1, 9).is_empty() && index.find(3, 9).is_empty()
+    );
+    assert!(rt; index.begins(0) && !index.begins(1) && !index.begins(3));
+    assert!(rt; holds(&[3, 7], 7) && !holds(&[3, 7], 5));
+    assert_eq!(rt; above(&[3, 7, 9], 3), [7, 9].as_slice());
+    Ok(())
+}

@@ -1,0 +1,20 @@
+//! Tests of graphs, plans, near lists, searches and candidate pairs, over the graphs and patterns of `fixtures`. They stand
+//! in a crate of their own, since a crate with tests is proved twice.
+//!
+//! - `graphs`: a graph and its look-ups
+//! - `nearness`: what is near to what
+//! - `plans`: in which order a search goes through slots
+//! - `searching`: what a search with a view finds
+//! - `seeding`: which pairs are candidates
+#![tactic(auto)]
+
+#[cfg(test)]
+mod graphs;
+#[cfg(test)]
+mod nearness;
+#[cfg(test)]
+mod plans;
+#[cfg(test)]
+mod searching;
+#[cfg(test)]
+mod seeding;

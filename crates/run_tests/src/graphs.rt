@@ -1,0 +1,188 @@
+//! Graphs in all forms of N-Triples, and graphs that are refused.
+
+use crate::runs::{Case, GOOD, ONE_VALUE, holds};
+use fixtures::texts::ALBUM_KEY;
+use std::test::Fail;
+
+const ALIKE: &[u8] = b"\
+<urn:u1> <http://www.w3.org/1999/02/22-rdf-syntax-ns#type> <urn:T> .
+<urn:u2> <http://www.w3.org/1999/02/22-rdf-syntax-ns#type> <urn:T> .
+<urn:u1> <urn:p> \"a\" .
+<urn:u1> <urn:q> \"b\"@EN .
+<urn:u1> <urn:r> \"\\u0061c\" .
+<urn:u2> <urn:p> \"a\"^^<http://www.w3.org/2001/XMLSchema#string> .
+<urn:u2> <urn:q> \"b\"@en .
+<urn:u2> <urn:r> \"ac\" .
+";
+
+const THREE_VALUES: &[u8] = b"\
+key k <urn:T>
+value $p
+value $q
+value $r
+?x <urn:p> $p
+?x <urn:q> $q
+?x <urn:r> $r
+end
+";
+
+/// Three kinds of line ends, a comment, a line of white space, and few spaces; the last line ends with the text.
+const LINE_ENDS: &[u8] = b"\
+<urn:a> <http://www.w3.org/1999/02/22-rdf-syntax-ns#type> <urn:T> .\r
+<urn:b> <http://www.w3.org/1999/02/22-rdf-syntax-ns#type> <urn:T> . # second\r\t\x20
+<urn:a><urn:p>\"1\".
+<urn:b> <urn:p> \"1\".";
+
+const NO_LAST_DOT: &[u8] = b"\
+<urn:a> <http://www.w3.org/1999/02/22-rdf-syntax-ns#type> <urn:T> .\r
+<urn:b> <http://www.w3.org/1999/02/22-rdf-syntax-ns#type> <urn:T> . # second\r\t\x20
+<urn:a><urn:p>\"1\".
+<urn:b> <urn:p> \"1\"";
+
+const EXPORTED: &[u8] = b"\
+# Books, as they were exported
+<http://ex.org/b1> <http://www.w3.org/1999/02/22-rdf-syntax-ns#type> <http://schema.org/Book> .
+<http://ex.org/b1> <http://www.w3.org/1999/02/22-rdf-syntax-ns#type> <http://schema.org/CreativeWork> .
+<http://ex.org/b1> <http://schema.org/isbn> \"9780140449136\" .
+<http://ex.org/b1> <http://schema.org/name> \"Crime and Punishment\"@en .
+_:n4 <http://www.w3.org/1999/02/22-rdf-syntax-ns#type> <http://schema.org/Book> .
+_:n4 <http://schema.org/isbn> \"9780140449136\" .
+_:n4 <http://schema.org/datePublished> \"2003-01-30\"^^<http://www.w3.org/2001/XMLSchema#date> .
+";
+
+const ISBN: &[u8] = b"\
+key isbn <http://schema.org/Book>
+value $i
+?x <http://schema.org/isbn> $i
+end
+";
+
+const RELATIVE: &[u8] = b"\
+<urn:al1> <http://www.w3.org/1999/02/22-rdf-syntax-ns#type> <urn:Album> .
+<urn:al2> <http://www.w3.org/1999/02/22-rdf-syntax-ns#type> <urn:Album> .
+<a> <urn:p> \"x\" .
+";
+
+const NOT_CLOSED: &[u8] = b"\
+<urn:al1> <http://www.w3.org/1999/02/22-rdf-syntax-ns#type> <urn:Album> .
+<urn:al2> <http://www.w3.org/1999/02/22-rdf-syntax-ns#type> <urn:Album> .
+<urn:al1> <urn:name> \"Anthology 2\" .
+<urn:al2> <urn:name> \"Anthology 2\" .
+<urn:al1> <urn:year> \"1996\" .
+<urn:al2> <urn:year> \"1996\" .
+<urn:a> <urn:p> \"x";
+
+/// A run that is refused.
+const REFUSED: Case<'static> = Case {
+    status: 2,
+    out: b"",
+    ..GOOD
+};
+
+#[test]
+fn all_forms_of_terms_and_lines_are_read(rt: HostRuntime) -> Result<(), Fail> {
+    let read = [
+        (ALIKE, THREE_VALUES, "<urn:u1> <urn:u2>\n"),
+        (LINE_ENDS, ONE_VALUE, "<urn:a> <urn:b>\n"),
+        (EXPORTED, ISBN, "<http://ex.org/b1> _:n4\n"),
+    ];
+    for (row, (graph, keys, out)) in read.into_iter().enumerate() {
+        for most in [1usize, 2, 3, 65_536] {
+            let case = Case {
+                graph,
+                keys,
+                most,
+                out: out.as_bytes(),
+                ..GOOD
+            };
+            assert!(rt; holds(&rt, &case)?, "row {row}, {most} bytes at once");
+        }
+    }
+    Ok(())
+}
+
+#[test]
+fn refused_graphs_name_their_first_line(rt: HostRuntime) -> Result<(), Fail> {
+    let refused = [
+        (NO_LAST_DOT, "graph:5: dot expected\n"),
+        (RELATIVE, "graph:3: relative IRI\n"),
+        (NOT_CLOSED, "graph:7: string not closed\n"),
+        (b"\x1F\x8B\n", "graph:1: not UTF-8\n"),
+    ];
+    for (row, (graph, err)) in refused.into_iter().enumerate() {
+        for most in [1usize, 2, 3, 65_536] {
+            let case = Case {
+                graph,
+                most,
+                err,
+                ..REFUSED
+            };
+            assert!(rt; holds(&rt, &case)?, "row {row}, {most} bytes at once");
+        }
+    }
+    Ok(())
+}
+
+#[test]
+fn each_fault_of_a_line_has_its_text(rt: HostRuntime) -> Result<(), Fail> {
+    let faults = [
+        (
+            "\u{FEFF}<urn:a> <urn:p> \"1\" .",
+            "graph:1: subject expected\n",
+        ),
+        ("<urn:a> <urn:p> \"\\q\" .", "graph:1: bad escape\n"),
+        (
+            "<urn:a> <urn:p> \"x\"^ <urn:t> .",
+            "graph:1: dot expected\n",
+        ),
+        ("<urn:a> <urn:p> \"x\"^^ \"y\" .", "graph:1: bad IRI\n"),
+        ("<urn:a> <urn:p> _: .", "graph:1: bad blank node label\n"),
+        ("<urn:a> <urn:p> \"x\"@ .", "graph:1: bad language tag\n"),
+        ("<urn:a> \"p\" \"x\" .", "graph:1: predicate expected\n"),
+        ("<urn:a> <urn:p> .", "graph:1: object expected\n"),
+        ("<urn:a> <urn:p> \"x\" . x", "graph:1: text after the dot\n"),
+    ];
+    for (row, (line, err)) in faults.into_iter().enumerate() {
+        let case = Case {
+            graph: line.as_bytes(),
+            err,
+            ..REFUSED
+        };
+        assert!(rt; holds(&rt, &case)?, "row {row}");
+    }
+    Ok(())
+}
+
+/// Calls 2 to 5 give the first four bytes. The line is refused at its end, so the sixth call never comes.
+#[test]
+fn no_byte_is_read_after_a_refused_line(rt: HostRuntime) -> Result<(), Fail> {
+    let early = Case {
+        graph: b"<a>\nx",
+        keys: ALBUM_KEY,
+        reads: &[6],
+        most: 1,
+        err: "graph:1: relative IRI\n",
+        ..REFUSED
+    };
+    assert!(rt; holds(&rt, &early)?);
+    let unread = Case {
+        reads: &[5],
+        status: 3,
+        err: "graph: read failed\n",
+        ..early
+    };
+    assert!(rt; holds(&rt, &unread)?);
+    Ok(())
+}
+
+#[test]
+fn a_refused_graph_comes_before_a_missing_key_file(rt: HostRuntime) -> Result<(), Fail> {
+    let no_keys = Case {
+        words: &["match", "g", "none"],
+        graph: RELATIVE,
+        err: "graph:3: relative IRI\n",
+        ..REFUSED
+    };
+    assert!(rt; holds(&rt, &no_keys)?);
+    Ok(())
+}

@@ -1,0 +1,14 @@
+//! Tests of whole runs of `gkey_cmd` over files and sinks in memory. They stand in a crate of their own, since a crate with
+//! tests is proved twice.
+//!
+//! - `runs`: words, limits, and devices that fail
+//! - `graphs`: graphs in all forms of N-Triples, and graphs that are refused
+//! - `keys`: small graphs with keys, and the classes that follow by hand
+#![tactic(auto)]
+
+#[cfg(test)]
+mod graphs;
+#[cfg(test)]
+mod keys;
+#[cfg(test)]
+mod runs;
