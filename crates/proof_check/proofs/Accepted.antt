@@ -1,0 +1,53 @@
+-- The steps of an accepted proof are a derivation.
+use Rattle.std.proofs.Common.{List, [], ◌∷◌, ◌++◌, ℕ, zero, suc, ◌+◌, ◌<◌, Option, Some, None, All, map, length, slice_get, take, ◌≡◌, refl, sym, ap, subst, ◌∙◌, arith, length-append, append_assoc, append-nil}
+use Rattle.std.proofs.lemmas.List.{length-map, map-append}
+use Rattle.std.proofs.lemmas.Option.{get_or_from_slice_get, slice_get_within}
+use Rattle.gk_base.specs.declared.term.Term.{Term}
+use Rattle.gk_base.specs.declared.term.Triple.{Triple}
+use Rattle.chase_laws.specs.declared.entry.Entry.{Entry}
+use Rattle.chase_laws.specs.Chase.{IsStep, IsDerivation}
+use Rattle.key_file.specs.KeyShape.{KeyShape}
+use Rattle.key_file.specs.Key.{IsKey}
+use Rattle.key_file.specs.KeyFile.{IsKeyFile}
+use Rattle.key_file.specs.Compile.{patterns_of}
+use Rattle.proof_graph.specs.Steps.{StepShape, step_ends}
+use Rattle.key_file.specs.Numbered.{names_for, graph_of}
+use Rattle.proof_check.specs.StepEntries.{step_entry, step_entries}
+use Rattle.proof_check.specs.Verdict.{key_place, reason_of, rejected_or, verdict_after, verdict}
+use Rattle.proof_check.specs.declared.reason.Reason.{Reason}
+use Rattle.proof_check.specs.declared.verdict.Verdict.{Verdict}
+use Rattle.proof_check.specs.declared.verdict.Verdict.TheVariants.{Accepted, Rejected}
+use Rattle.proof_check.proofs.ListFacts.{map-take, map_found}
+use Rattle.proof_check.proofs.NameFacts.{AreNames, are_names}
+use Rattle.proof_check.proofs.ToNumbers.{holds_at, step_holds}
+
+-- no reason was found
+judged_accepted : (o : Option Reason) (number : ℕ) (later : Verdict) (count : ℕ) → rejected_or o number later ≡ Accepted count → (o ≡ None) × (later ≡ Accepted count)
+judged_accepted None number later count h = (refl, h)
+judged_accepted (Some reason) number later count h = absurd cc
+
+-- there is no reason against any step of an accepted proof
+pub no_reason : (triples : List Triple) (keys : List KeyShape) (before steps : List StepShape) (count : ℕ) → verdict_after triples keys (map step_ends before) steps ≡ Accepted count →
+    (i : ℕ) (step : StepShape) → slice_get steps i ≡ Some step → reason_of triples keys (map step_ends (before ++ take i steps)) step ≡ None
+no_reason triples keys before [] count h i step at = absurd cc
+no_reason triples keys before (s ∷ steps) count h zero step at =
+    let e : s ≡ step = cc in
+    let none = (judged_accepted _ _ _ count h).0 in
+    subst (λ l. reason_of triples keys (map step_ends l) step ≡ None) (sym (append-nil before)) (subst (λ u. reason_of triples keys (map step_ends before) u ≡ None) e none)
+no_reason triples keys before (s ∷ steps) count h (suc i) step at =
+    let later = (judged_accepted _ _ _ count h).1 in
+    let moved = subst (λ l. verdict_after triples keys l steps ≡ Accepted count) (sym (map-append step_ends before (s ∷ []))) later in
+    subst (λ l. reason_of triples keys (map step_ends l) step ≡ None) (append_assoc before (s ∷ []) (take i steps))
+    (no_reason triples keys (before ++ s ∷ []) steps count moved i step at)
+
+pub accepted_derivation : (triples : List Triple) (keys : List KeyShape) (steps : List StepShape) (count : ℕ) → IsKeyFile keys → verdict triples keys steps ≡ Accepted count →
+    IsDerivation (graph_of (names_for triples keys) triples) (patterns_of (names_for triples keys) keys) (step_entries (names_for triples keys) keys steps)
+accepted_derivation triples keys steps count file h i e at =
+    let names = names_for triples keys in
+    let s = map_found (step_entry names keys) steps i e at in
+    let none = no_reason triples keys [] steps count h i s.0 s.1 in
+    let found = holds_at triples (map step_ends (take i steps)) s.0 (slice_get keys (key_place keys s.0.key)) none in
+    let valid : IsKey found.0 = subst IsKey (get_or_from_slice_get keys (key_place keys s.0.key) found.0 found.0 found.1) (file.valid (key_place keys s.0.key) found.0 (slice_get_within keys (key_place keys s.0.key) found.0 found.1)) in
+    subst (λ u. IsStep (graph_of names triples) (patterns_of names keys) (take i (step_entries names keys steps)) u) s.2
+    (subst (λ l. IsStep (graph_of names triples) (patterns_of names keys) l (step_entry names keys s.0)) (map-take (step_entry names keys) i steps)
+    (step_holds triples keys names (are_names triples keys) (key_place keys s.0.key) found.0 found.1 (take i steps) s.0 refl valid found.2))

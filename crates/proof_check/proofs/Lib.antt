@@ -1,0 +1,12 @@
+mod ListFacts
+mod NameFacts
+mod ToNumbers
+mod Accepted
+mod FromNumbers
+mod TripleFacts
+mod RowLemmas
+mod SameReason
+mod StepLemmas
+mod LookupLemmas
+mod PreparedLemmas
+mod SameVerdict

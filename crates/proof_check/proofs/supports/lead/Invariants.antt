@@ -1,0 +1,7 @@
+use Rattle.std.proofs.Common.{ℕ, ◌≡◌, drop, nat_eq, Some}
+use Rattle.proof_graph.specs.Leads.{arrives, end_along, links_lead}
+use Rattle.proof_graph.specs.Tells.{places_of}
+use Rattle.proof_check.proofs.supports.lead.Given as goal
+
+abbrev pub invariant-loop-n : goal.invariant-loop-n
+invariant-loop-n l = links_lead nat_eq l.ends (places_of l.steps) l.from l.to ≡ links_lead nat_eq l.ends (places_of (drop l.n-index l.steps)) l.at l.to

@@ -1,0 +1,159 @@
+//! The checker.
+
+ghost use Rattle.std.specs.Prelude.{◌≡◌, ◌<◌, ◌-◌, ◌^◌, [], IfOk, All, length, slice_index};
+ghost use Rattle.std.specs.Ordering.{nat_cmp};
+ghost use Rattle.std.specs.Cmp.Lexicographic.{slice_cmp};
+ghost use Rattle.std.specs.List.Sorted.{IsSorted};
+ghost use Rattle.key_file.specs.Numbered.{rdf_type};
+ghost use Rattle.term_table.specs.Numbering.{AreDistinct, names_of};
+ghost use Rattle.proof_graph.specs.Steps.{IsNumberedBelow};
+ghost use Rattle.proof_check.specs.Verdict.{key_place, verdict};
+ghost use Rattle.proof_check.specs.Prepared.{IsPrepared, reason_with, verdict_with};
+
+use crate::judging::least_reason;
+use crate::lookup::Lookup;
+use crate::reason::Reason;
+use crate::verdict::Verdict;
+use chase_laws::Pattern;
+use gk_base::{NoMemory, Term, Text};
+use key_file::{KeyDef, KeyFile, compile};
+use proof_graph::{Proof, ProofStep};
+use std::alloc::Global;
+use term_list::Triples;
+use term_table::Names;
+
+/// How many terms a proof may have: names are numbered by four bytes, and rdf:type and the terms of 64 keys, of which each
+/// has at most 48, come behind the proof's.
+const MOST_TERMS: usize = 4294967295 - 64 * 48 - 1;
+
+/// The term rdf:type.
+fn type_term(alloc: Global) -> Result<Term, NoMemory>
+    ensures { IfOk result (λ t. t ≡ rdf_type) }
+{
+    Ok(Term::Iri(Text::from_bytes(alloc, b"http://www.w3.org/1999/02/22-rdf-syntax-ns#type")?))
+}
+
+/// Terms as names.
+fn numbers(alloc: Global, terms: &[Term]) -> Result<Names, NoMemory>
+    requires { length terms.now < 2 ^ 32 - 1 }
+    ensures { IfOk result (λ names. names ≡ names_of terms.now) }
+{
+    let mut names = Names::new(alloc);
+    for term in terms {
+        names.intern(term.copy()?)?;
+    }
+    Ok(names)
+}
+
+/// The place of the first key with this name, or how many keys there are.
+fn key_place(keys: &[KeyDef], name: &Text) -> usize
+    ensures { result ≡ key_place keys.now name.now }
+{
+    for (place, key) in keys.iter().enumerate() {
+        if key.name == *name {
+            return place;
+        }
+    }
+    keys.len()
+}
+
+/// What is made before the steps are looked at.
+#[derive(Drop)]
+struct Prepared {
+    look: Lookup,
+    patterns: Vec<Pattern>,
+}
+
+/// The lookup of a graph by the numbers of a proof's terms, and the keys' patterns. No other term of the graph has a number.
+fn prepare(
+    alloc: Global,
+    triples: &Triples,
+    keys: &KeyFile,
+    terms: &[Term],
+) -> Result<Prepared, NoMemory>
+    requires { AreDistinct terms.now }
+    ensures { IfOk result (λ r. IsPrepared triples.now keys.now terms.now r.look r.patterns.items) }
+{
+    if terms.len() >= MOST_TERMS {
+        return Err(NoMemory);
+    }
+    let _keys = keys.keys();
+    let mut names = numbers(alloc, terms)?;
+    let kind = names.intern(type_term(alloc)?)?;
+    let patterns = compile(alloc, keys, &mut names)?;
+    let look = Lookup::new(alloc, triples, names, kind)?;
+    Ok(Prepared { look, patterns })
+}
+
+/// The least reason against a step, where the earlier steps have these ends.
+fn judge(
+    alloc: Global,
+    ready: &Prepared,
+    keys: &[KeyDef],
+    step: &ProofStep,
+    ends: &[(u32, u32)],
+) -> Result<Option<Reason>, NoMemory>
+    requires patterns { length ready.now.patterns.items ≡ length keys.now }
+    requires ascending { IsSorted (slice_cmp nat_cmp) ready.now.look.rows.items }
+    requires count { length ready.now.look.known.items ≡ length ready.now.look.names }
+    requires inside { IsNumberedBelow (length ready.now.look.names) step.now }
+    ensures { IfOk result (λ reason. reason ≡ reason_with ready.now.look ready.now.patterns.items keys.now ends.now step.now) }
+{
+    let place = key_place(keys, &step.key);
+    if place >= keys.len() {
+        return Ok(Some(Reason::UnknownKey));
+    }
+    least_reason(alloc, &ready.look, &ready.patterns[place], step, ends)
+}
+
+/// The first number of a side, or 0.
+fn first(side: &[u32]) -> u32
+    ensures { result ≡ slice_index side.now 0 }
+{
+    if side.is_empty() { 0 } else { side[0] }
+}
+
+/// The verdict on steps.
+fn judge_all(
+    alloc: Global,
+    ready: &Prepared,
+    keys: &[KeyDef],
+    steps: &[ProofStep],
+) -> Result<Verdict, NoMemory>
+    requires patterns { length ready.now.patterns.items ≡ length keys.now }
+    requires ascending { IsSorted (slice_cmp nat_cmp) ready.now.look.rows.items }
+    requires count { length ready.now.look.known.items ≡ length ready.now.look.names }
+    requires inside { All (IsNumberedBelow (length ready.now.look.names)) steps.now }
+    requires few { length steps.now < 2 ^ 32 }
+    ensures { IfOk result (λ v. v ≡ verdict_with ready.now.look ready.now.patterns.items keys.now [] steps.now) }
+{
+    let mut ends = Vec::new(alloc);
+    for step in steps {
+        if let Some(reason) = judge(alloc, ready, keys, step, &ends)? {
+            return Ok(Verdict::Rejected {
+                step: ends.len() as u32 + 1,
+                reason,
+            });
+        }
+        ends.push((first(&step.left), first(&step.right)))?;
+    }
+    Ok(Verdict::Accepted {
+        steps: ends.len() as u32,
+    })
+}
+
+/// What is to be said of a proof, over the triples of a graph and the keys: that each step holds, or which is the first that
+/// does not, and the first test that it fails. `NoMemory` comes also where the proof has more terms than can be numbered.
+pub fn check(
+    alloc: Global,
+    triples: &Triples,
+    keys: &KeyFile,
+    proof: &Proof,
+) -> Result<Verdict, NoMemory>
+    requires { length proof.now < 2 ^ 32 }
+    ensures { IfOk result (λ v. v ≡ verdict triples.now keys.now proof.now) }
+{
+    let keys_list = keys.keys();
+    let ready = prepare(alloc, triples, keys, &proof.terms)?;
+    judge_all(alloc, &ready, keys_list, &proof.steps)
+}

@@ -1,0 +1,99 @@
+//! The least reason against a step.
+
+ghost use Rattle.std.specs.Prelude.{◌≡◌, ◌<◌, IfOk, All, true, length};
+ghost use Rattle.std.specs.Ordering.{nat_cmp};
+ghost use Rattle.std.specs.Cmp.Lexicographic.{slice_cmp};
+ghost use Rattle.std.specs.List.Sorted.{IsSorted};
+ghost use Rattle.std.specs.List.{list_all};
+ghost use Rattle.proof_graph.specs.Tells.{are_earlier};
+ghost use Rattle.proof_check.specs.NumberVerdict.{numbers_have_shape, number_reason};
+ghost use Rattle.proof_check.specs.Rows.{HasPlaces, AreEarlier};
+
+use crate::lookup::Lookup;
+use crate::reason::Reason;
+use crate::side::{are_constants, are_different, are_known, have_images, have_kinds};
+use crate::supports::{all_lead, are_earlier, are_supports};
+use crate::values::all_agree;
+use chase_laws::Pattern;
+use chase_laws::laws::law_pattern;
+use gk_base::NoMemory;
+use proof_graph::ProofStep;
+use std::alloc::Global;
+
+/// Whether a step has one term for each slot on either side, and the supports that its pattern asks for.
+fn has_shape(pattern: &Pattern, step: &ProofStep) -> bool
+    ensures { result ≡ numbers_have_shape pattern.now step.now }
+{
+    step.left.len() == pattern.slots.len()
+        && step.right.len() == pattern.slots.len()
+        && are_supports(&pattern.slots, &step.supports)
+}
+
+/// What the test of a step's shape says, for the proofs of the tests after it.
+fn shape_tells(pattern: &Pattern, step: &ProofStep)
+    requires { numbers_have_shape pattern.now step.now ≡ true }
+    ensures { HasPlaces pattern.now step.now }
+{
+    let _slots = pattern.slots.len();
+    let _steps = step.left.len();
+    law_pattern();
+}
+
+/// What the test that supports are earlier says, for the proof of the test after it.
+fn earlier_tells(count: usize, step: &ProofStep)
+    requires { list_all (are_earlier count) step.now.supports ≡ true }
+    ensures { AreEarlier count step.now }
+{
+    let _steps = step.left.len();
+}
+
+/// The least reason against a step with this pattern, where the earlier steps have these ends.
+pub(crate) fn least_reason(
+    alloc: Global,
+    look: &Lookup,
+    pattern: &Pattern,
+    step: &ProofStep,
+    ends: &[(u32, u32)],
+) -> Result<Option<Reason>, NoMemory>
+    requires ascending { IsSorted (slice_cmp nat_cmp) look.now.rows.items }
+    requires count { length look.now.known.items ≡ length look.now.names }
+    requires left { All (λ n. n < length look.now.names) step.now.left }
+    requires right { All (λ n. n < length look.now.names) step.now.right }
+    ensures { IfOk result (λ reason. reason ≡ number_reason look.now.rows.items look.now.known.items look.now.names look.now.kind ends.now step.now pattern.now) }
+{
+    let (slots, edges) = (pattern.slots.as_slice(), pattern.edges.as_slice());
+    let (left, right) = (step.left.as_slice(), step.right.as_slice());
+    let supports = step.supports.as_slice();
+    if !has_shape(pattern, step) {
+        return Ok(Some(Reason::WrongShape));
+    }
+    shape_tells(pattern, step);
+    if !(are_known(&look.known, left) && are_known(&look.known, right)) {
+        return Ok(Some(Reason::TermNotInTheGraph));
+    }
+    if !(are_different(left) && are_different(right)) {
+        return Ok(Some(Reason::TermTwice));
+    }
+    if !(have_kinds(&look.rows, &look.names, look.kind, slots, left)
+        && have_kinds(&look.rows, &look.names, look.kind, slots, right))
+    {
+        return Ok(Some(Reason::WrongKindOrType));
+    }
+    if !(have_images(&look.rows, edges, left) && have_images(&look.rows, edges, right)) {
+        return Ok(Some(Reason::TripleMissing));
+    }
+    if !(are_constants(slots, left) && are_constants(slots, right)) {
+        return Ok(Some(Reason::ConstantDiffers));
+    }
+    if !all_agree(alloc, &look.names, slots, left, right)? {
+        return Ok(Some(Reason::ValueDiffers));
+    }
+    if !are_earlier(ends.len(), supports) {
+        return Ok(Some(Reason::SupportNotEarlier));
+    }
+    earlier_tells(ends.len(), step);
+    if !all_lead(ends, left, right, supports) {
+        return Ok(Some(Reason::SupportDoesNotLeadThere));
+    }
+    Ok(None)
+}

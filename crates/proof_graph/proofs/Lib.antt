@@ -1,0 +1,22 @@
+pub mod CallerLemmas
+mod WayLemmas
+mod TreeLemmas
+mod MeetLemmas
+mod PartLemmas
+mod SupportLemmas
+mod TermLeads
+mod PlacedLemmas
+mod InNumbers
+mod SlotLemmas
+mod TellsLemmas
+mod PieceLemmas
+mod WordLemmas
+mod DecimalLemmas
+mod StatementLemmas
+mod SideLemmas
+mod SplitLemmas
+mod ProgressLemmas
+mod OnceLemmas
+mod TotalLemmas
+mod LineLemmas
+mod ReadLemmas

@@ -1,0 +1,5 @@
+use Rattle.proof_graph.proofs.SideLemmas.{term_read}
+use Rattle.proof_graph.proofs.sides.read_term.Goals as goal
+
+pub returns-in_ok-number-in-Ok-clause-told : goal.returns-in_ok-number-in-Ok-clause-told
+returns-in_ok-number-in-Ok-clause-told c = term_read c.number.new.names c.args.line.now c.args.at c.in_ok-number-in-Ok.field-0 c.in-Ok.end c.in-Ok.term c.in-Ok.ensures.so c.in_ok-number-in-Ok.ensures.number

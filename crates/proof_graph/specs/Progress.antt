@@ -1,0 +1,114 @@
+-- What is kept while a proof file is read, and what it stands for (this project's own).
+use Rattle.std.specs.Prelude.{List, ◌++◌, ℕ, ◌<◌, ◌≤◌, Result, Ok, Err, Vec, All, map, length, ◌≡◌}
+use Rattle.std.specs.declared.alloc.Global.{Global}
+use Rattle.gk_base.specs.declared.term.Term.{Term}
+use Rattle.gk_base.specs.declared.lex_fault.LexFault.{LexFault}
+use Rattle.gk_base.specs.declared.stop.Stop.{Stop}
+use Rattle.gk_base.specs.declared.stop.Stop.TheVariants.{NoMemory, Fault}
+use Rattle.nt_lex.specs.Reading.{Says}
+use Rattle.proof_graph.specs.Steps.{term_at, step_with, IsNumberedBelow}
+use Rattle.proof_graph.specs.ProofText.{StageShape, AtHeader, AtCount, AtTerm, AtStep, AtLeft, AtRight, AtSupport, AtEnd, ProofState, TermsSay}
+use Rattle.proof_graph.specs.declared.fault.ProofFault.{ProofFault}
+use Rattle.proof_graph.specs.declared.fault.ProofFault.TheVariants.{Lex}
+use Rattle.proof_graph.specs.declared.stage.Stage.{Stage}
+use Rattle.proof_graph.specs.declared.stage.Stage.TheVariants as stage
+use Rattle.proof_graph.specs.declared.progress.Known.{Known}
+use Rattle.proof_graph.specs.declared.progress.Progress.{Progress}
+
+-- why a line of a proof file, or a part of it, was not read
+abbrev pub ProofLineStop : Type 0
+ProofLineStop = Stop ProofFault
+
+-- this very answer
+abbrev pub IsAnswer : {A : Type 0} → Result A ProofFault → Result A ProofFault → Type 0
+IsAnswer computed answer = answer ≡ computed
+
+-- a list was answered as it was computed
+abbrev pub ItemsAre : {X : Type 0} → Result (List X) ProofFault → Result (Vec X Global) ProofLineStop → Type 0
+ItemsAre computed (Ok v) = computed ≡ Ok v.items
+ItemsAre computed (Err NoMemory) = Unit {0}
+ItemsAre computed (Err (Fault fault)) = computed ≡ Err fault
+
+-- numbers are those of names, of which there are so many
+abbrev pub AreBelow : ℕ → List ℕ → Type 0
+AreBelow count numbers = All (λ n. n < count) numbers
+
+-- the term that stands at a place was read, with the place after it, and its number among the names is this
+pub record TermRead (names : List Term) (line : List ℕ) (at number end : ℕ) : Type 0 where
+  pub says : Says line at (Ok (term_at names number, end))
+  pub below : number < length names
+  pub later : at < end
+  pub inside : end ≤ length line
+
+-- the term that stands at a place was read, or its fault was told
+abbrev pub TermTold : List Term → List ℕ → ℕ → Result (ℕ × ℕ) ProofLineStop → Type 0
+TermTold names line at (Ok read) = TermRead names line at read.0 read.1
+TermTold names line at (Err NoMemory) = Unit {0}
+TermTold names line at (Err (Fault fault)) = (lex : LexFault) × (fault ≡ Lex lex) × Says line at (Err lex)
+
+-- the numbers of terms were answered, where these terms were to be, or their fault
+abbrev pub SideTold : List Term → (Result (List Term) ProofFault → Type 0) → Result (Vec ℕ Global) ProofLineStop → Type 0
+SideTold names Tells (Ok v) = Tells (Ok (map (term_at names) v.items)) × AreBelow (length names) v.items
+SideTold names Tells (Err NoMemory) = Unit {0}
+SideTold names Tells (Err (Fault fault)) = Tells (Err fault)
+
+-- the number of a term was answered, where this term was to be, or its fault
+abbrev pub OneTermTold : List Term → (Result Term ProofFault → Type 0) → Result ℕ ProofLineStop → Type 0
+OneTermTold names Tells (Ok n) = Tells (Ok (term_at names n)) × (n < length names)
+OneTermTold names Tells (Err NoMemory) = Unit {0}
+OneTermTold names Tells (Err (Fault fault)) = Tells (Err fault)
+
+-- terms and more of them, where there is no fault
+abbrev pub more_of : {X : Type 0} → List X → Result (List X) ProofFault → Result (List X) ProofFault
+more_of xs (Err fault) = Err fault
+more_of xs (Ok ys) = Ok (xs ++ ys)
+
+-- from the one place of a line on come these terms, and then those from the other place on
+abbrev pub ReadsOn : List ℕ → ℕ → ℕ → List Term → Type 0
+ReadsOn line begin at terms = (rest : Result (List Term) ProofFault) → TermsSay line at rest → TermsSay line begin (more_of terms rest)
+
+-- a stage with the terms of these names
+abbrev pub stage_with : List Term → Stage → StageShape
+stage_with names stage.Header = AtHeader
+stage_with names stage.Count = AtCount
+stage_with names (stage.Term n) = AtTerm n
+stage_with names stage.Step = AtStep
+stage_with names (stage.Left key) = AtLeft key
+stage_with names (stage.Right key left) = AtRight key (map (term_at names) left.items)
+stage_with names (stage.Support step) = AtSupport (step_with names step)
+stage_with names stage.End = AtEnd
+
+-- what has come of a file, with the terms of these names, at a stage
+abbrev pub state_with : List Term → Known → StageShape → ProofState
+state_with names known stage = record { version = known.version; terms = map (term_at names) known.listed.items; steps = map (step_with names) known.steps.items; stage = stage }
+
+-- a file as far as it was read, with the terms of these names
+abbrev pub state_of : List Term → Progress → ProofState
+state_of names progress = state_with names progress.known (stage_with names progress.stage)
+
+-- the numbers in what has come are those of names, of which there are so many
+pub record IsKnownBelow (count : ℕ) (known : Known) : Type 0 where
+  pub listed : AreBelow count known.listed.items
+  pub steps : All (IsNumberedBelow count) known.steps.items
+
+-- and so are those of a stage
+abbrev pub IsStageBelow : ℕ → Stage → Type 0
+IsStageBelow count stage.Header = Unit {0}
+IsStageBelow count stage.Count = Unit {0}
+IsStageBelow count (stage.Term n) = Unit {0}
+IsStageBelow count stage.Step = Unit {0}
+IsStageBelow count (stage.Left key) = Unit {0}
+IsStageBelow count (stage.Right key left) = AreBelow count left.items
+IsStageBelow count (stage.Support step) = IsNumberedBelow count step
+IsStageBelow count stage.End = Unit {0}
+
+-- and so are all of a file as far as it was read
+pub record IsBelow (count : ℕ) (progress : Progress) : Type 0 where
+  pub known : IsKnownBelow count progress.known
+  pub stage : IsStageBelow count progress.stage
+
+-- what a line says was done, or its fault was told
+abbrev pub IsDone : List Term → (Result ProofState ProofFault → Type 0) → Result Progress ProofLineStop → Type 0
+IsDone names Tells (Ok next) = Tells (Ok (state_of names next)) × IsBelow (length names) next
+IsDone names Tells (Err NoMemory) = Unit {0}
+IsDone names Tells (Err (Fault fault)) = Tells (Err fault)
