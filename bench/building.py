@@ -33,7 +33,7 @@ def build(folder, name, dependencies):
         shutil.copytree(TOP / "crates" / crate, folder / "crates" / crate, ignore=shutil.ignore_patterns("must-fail"))
     home = folder / "crates" / name
     shutil.copytree(TOP / "bench" / "programs" / name, home)
-    (home / "src").mkdir()
+    (home / "src").mkdir(exist_ok=True)
     (home / "main.rt.txt").rename(home / "src" / "main.rt")
     for path in home.rglob("*.txt"):
         path.rename(path.with_suffix(""))
