@@ -56,9 +56,11 @@ IsPresent S view = (n l : ℕ) → label_in view n ≡ Some l → l ≡ slice_in
 abbrev pub IsOvertaken : State → List (ℕ × ℕ) → Type 0
 IsOvertaken S view = (n l : ℕ) × (label_in view n ≡ Some l) × (l ≢ slice_index S.labels n)
 
--- a name near to one of two ends has another label than before
-abbrev pub IsTouched : Task → State → State → ℕ → ℕ → Type 0
-IsTouched T old new a b = (n : ℕ) × IsNearEither T a b n × (slice_index new.labels n ≢ slice_index old.labels n)
+-- two ends are brought together: a name near to the one and a name near to the other had two labels before, and have one now
+abbrev pub AreBroughtTogether : Task → State → State → ℕ → ℕ → Type 0
+AreBroughtTogether T old new a b =
+    (m n : ℕ) × IsNear T.graph T.patterns a m × IsNear T.graph T.patterns b n
+    × (slice_index old.labels m ≢ slice_index old.labels n) × (slice_index new.labels m ≡ slice_index new.labels n)
 
 -- the ends of pair number p
 abbrev pub PairAt : Task → ℕ → ℕ → ℕ → Type 0
@@ -116,13 +118,13 @@ pub record Enters (old new : State) (e : Entry) : Type 0 where
   pub labels : LabelsJoin new.labels new.journal
   pub kept : Keeps old.labels new.labels old.journal e.a ⊎ Keeps old.labels new.labels old.journal e.b
 
--- The pair is Joined. A Missed pair is Ready where a name near to one of its ends has another label, and stays Missed
--- elsewhere. No other pair changes.
+-- The pair is Joined. A Missed pair is Ready where its ends are brought together, and stays Missed elsewhere, even where a
+-- name near to one of them has another label. No other pair changes.
 pub record Wakes (T : Task) (old new : State) (p : ℕ) : Type 0 where
   pub count : length new.pairs ≡ length old.pairs
   pub entered : Stands new p state.Joined
-  pub woken : (q a b : ℕ) → q ≢ p → PairAt T q a b → Stands old q state.Missed → IsTouched T old new a b → Stands new q state.Ready
-  pub quiet : (q a b : ℕ) → q ≢ p → PairAt T q a b → Stands old q state.Missed → ¬ (IsTouched T old new a b) → Stands new q state.Missed
+  pub woken : (q a b : ℕ) → q ≢ p → PairAt T q a b → Stands old q state.Missed → AreBroughtTogether T old new a b → Stands new q state.Ready
+  pub quiet : (q a b : ℕ) → q ≢ p → PairAt T q a b → Stands old q state.Missed → ¬ (AreBroughtTogether T old new a b) → Stands new q state.Missed
   pub others : (q : ℕ) → q ≢ p → ¬ (Stands old q state.Missed) → slice_get new.pairs q ≡ slice_get old.pairs q
 
 -- what may come in a state, and how it leaves it
