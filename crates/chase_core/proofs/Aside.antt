@@ -163,13 +163,13 @@ aside_one old new p xs r missed states ready = record {
   once = λ i j d lt h. absurd (omega arith);
 }
 
-pub aside_skip : (old : Standings) (p : ℕ) (xs : List ℕ) → slice_get old.states p ≢ Some state.Missed → SetsAside (λ q. p ≡ q) old old xs xs
-aside_skip old p xs other = record {
+pub aside_other : (P : ℕ → Type 0) (old : Standings) (p : ℕ) (xs : List ℕ) → slice_get old.states p ≢ Some state.Missed → SetsAside (λ q. (p ≡ q) × P q) old old xs xs
+aside_other P old p xs other = record {
   more = [];
   list = sym (append-nil xs);
   states = refl;
   ready = refl;
-  exact = λ q. ((λ c. absurd (Contains-nil q c)), (λ h. absurd (other (subst (λ n. slice_get old.states n ≡ Some state.Missed) (sym h.1) h.0))));
+  exact = λ q. ((λ c. absurd (Contains-nil q c)), (λ h. absurd (other (subst (λ n. slice_get old.states n ≡ Some state.Missed) (sym h.1.0) h.0))));
   once = λ i j d lt h. absurd (omega arith);
 }
 

@@ -1,53 +1,62 @@
--- What an entry touches, and that it is an event.
-use Rattle.std.proofs.Common.{ℕ, Some, Contains, length, min, ◌≡◌, ◌<◌, ◌-◌, ◌+◌, ◌↔◌, inl, inr, refl, sym, ◌∙◌, ap, subst, arith, unwrap_or, Option}
-use Rattle.std.proofs.lemmas.List.Elements.{All-contains}
+-- Which pairs an entry wakes.
+use Rattle.std.proofs.Common.{ℕ, slice_index, length, min, ◌≡◌, ◌≢◌, ◌<◌, ◌-◌, ◌+◌, ◌↔◌, inl, inr, sym, ◌∙◌, subst, arith, Contains, slice_get}
 use Rattle.chase_laws.specs.Near.{IsNear}
-use Rattle.chase_laws.specs.Core.{Task, IsTask, name_count, PairAt, IsNearEither, IsTouched}
-use Rattle.chase_laws.proofs.CallerLemmas.{near_named, All-at}
-use Rattle.class_book.specs.Classes.{Classes}
+use Rattle.chase_laws.specs.Joined.{LabelsJoin}
+use Rattle.chase_laws.specs.Core.{IsTask, name_count, PairAt, AreBroughtTogether}
+use Rattle.chase_laws.proofs.CallerLemmas.{near_named}
+use Rattle.list_pool.specs.Pool.{list_at}
+use Rattle.class_book.specs.Classes.{Classes, relabelled, staying, going}
 use Rattle.chase_core.specs.Setup.{Preparation, IsNearTo}
 use Rattle.chase_core.specs.Table.{Standings}
 use Rattle.chase_core.specs.Running.{state_of}
-use Rattle.chase_core.specs.Gathering.{LooksAt, IsRelabelled, tail_of}
-
--- the ends of a pair are names
-pub ends_named : (T : Task) → IsTask T → (p a b : ℕ) → PairAt T p a b → (a < name_count T) × (b < name_count T)
-ends_named T ok p a b at =
-    let h = All-at (λ (q : ℕ × ℕ). (q.0 < q.1) × (q.1 < name_count T)) T.pairs p (a, b) ok.named at in
-    (omega arith, h.1)
+use Rattle.chase_core.specs.Gathering.{LooksAt, LooksAcross}
+use Rattle.chase_core.proofs.Across.{ends_named}
+use Rattle.chase_core.proofs.Ends.{same_parts}
+use Rattle.chase_core.proofs.Relabelling.{brought_from, brought_to}
 
 -- the room that is left while the journal is shorter
 pub room_is : (n pairs names room : ℕ) → room ≡ min pairs (names - 1) → (n < pairs) × (n + 1 < names) → n < room
 room_is n pairs names room e h = omega arith
 
-module _ (S : Preparation) (ok : IsTask S.task) (near : IsNearTo S.task S.near.near) (old new : Classes) (start count : ℕ) (names : length old.labels ≡ name_count S.task)
-    (r : IsRelabelled old new start count) (long : length new.labels ≡ length old.labels) (zero three : Standings) where
-  -- a pair is touched where it looks at a name with another label
-  pub touched_exactly : (q a b : ℕ) → PairAt S.task q a b →
-      IsTouched S.task (state_of old zero) (state_of new three) a b ↔ ((n : ℕ) × Contains (tail_of new start count) n × LooksAt S q n)
-  touched_exactly q a b at = (
-    (λ t. (t.0, (r.exact t.0 (either_named t.0 t.1)).1 t.2, looks t.0 t.1)),
-    (λ h. (h.0, near_end h.0 h.2, (r.exact h.0 (subst (λ n. h.0 < n) long (All-contains (λ n. n < length new.labels) (tail_of new start count) h.0 r.named h.1))).0 h.1)),
-  )
-    where
-      either_named : (n : ℕ) → IsNearEither S.task a b n → n < length old.labels
-      either_named n h = elim h [ inl i ↦ near_named S.task ok old.labels names a n i | inr i ↦ near_named S.task ok old.labels names b n i ]
+module _ (S : Preparation) (ok : IsTask S.task) (near : IsNearTo S.task S.near.near) (old new : Classes) (a b : ℕ) (names : length old.labels ≡ name_count S.task)
+    (a_in : a < length old.labels) (b_in : b < length old.labels) (joins : LabelsJoin old.labels old.journal) (apart : slice_index old.labels a ≢ slice_index old.labels b)
+    (labels : let x = slice_index old.labels a in let y = slice_index old.labels b in new.labels ≡ relabelled old.labels (going old.labels x y) (staying old.labels x y))
+    (zero three : Standings) where
+  named : (e n : ℕ) → IsNear S.task.graph S.task.patterns e n → n < length old.labels
+  named e n h = near_named S.task ok old.labels names e n h
 
-      looks : (n : ℕ) → IsNearEither S.task a b n → LooksAt S q n
-      looks n h =
-          let ends = ends_named S.task ok q a b at in
-          elim h [
-            | inl i ↦ (a, ends.0, (near.exact a n ends.0).1 i, (a, b, at, inl refl))
-            | inr i ↦ (b, ends.1, (near.exact b n ends.1).1 i, (a, b, at, inr refl))
-          ]
+  -- what is near to an end and has a label
+  looks : (e n l : ℕ) → e < name_count S.task → IsNear S.task.graph S.task.patterns e n → slice_index old.labels n ≡ l → LooksAt S old.labels e l
+  looks e n l h is at = (n, (near.exact e n h).1 is, at)
 
-      near_end : (n : ℕ) → LooksAt S q n → IsNearEither S.task a b n
-      near_end n h =
-          let is : IsNear S.task.graph S.task.patterns h.0 n = (near.exact h.0 n h.1).0 h.2 in
-          let e : Some (a, b) ≡ Some (h.3.0, h.3.1) = sym at ∙ h.3.2 in
-          let x : a ≡ h.3.0 = ap (λ (o : Option (ℕ × ℕ)). (unwrap_or o (0, 0)).0) e in
-          let y : b ≡ h.3.1 = ap (λ (o : Option (ℕ × ℕ)). (unwrap_or o (0, 0)).1) e in
-          elim h.3.3 [
-            | inl k ↦ inl (subst (λ m. IsNear S.task.graph S.task.patterns m n) (sym (x ∙ k)) is)
-            | inr k ↦ inr (subst (λ m. IsNear S.task.graph S.task.patterns m n) (sym (y ∙ k)) is)
-          ]
+  is_near : (e l : ℕ) → e < name_count S.task → LooksAt S old.labels e l → (n : ℕ) × IsNear S.task.graph S.task.patterns e n × (slice_index old.labels n ≡ l)
+  is_near e l h k = (k.0, (near.exact e k.0 h).0 k.1, k.2)
+
+  together : (e o : ℕ) → e < name_count S.task → o < name_count S.task → LooksAt S old.labels e (slice_index old.labels a) → LooksAt S old.labels o (slice_index old.labels b) →
+      AreBroughtTogether S.task (state_of old zero) (state_of new three) e o
+  together e o e_in o_in h k =
+      let m = is_near e (slice_index old.labels a) e_in h in
+      let n = is_near o (slice_index old.labels b) o_in k in
+      (m.0, n.0, m.1, n.1, (λ same. apart (sym m.2 ∙ same ∙ n.2)), brought_to old new a b a_in b_in joins apart labels m.0 n.0 (named e m.0 m.1) (named o n.0 n.1) m.2 n.2)
+
+  turned : (e o : ℕ) → AreBroughtTogether S.task (state_of old zero) (state_of new three) e o → AreBroughtTogether S.task (state_of old zero) (state_of new three) o e
+  turned e o h = (h.1, h.0, h.3, h.2, (λ same. h.4 (sym same)), sym h.5)
+
+  -- the ends of a pair are brought together where one looks at the one class, and the other at the other
+  pub brought_exactly : (q c d : ℕ) → PairAt S.task q c d →
+      AreBroughtTogether S.task (state_of old zero) (state_of new three) c d ↔ LooksAcross S old.labels (slice_index old.labels a) (slice_index old.labels b) q
+  brought_exactly q c d at =
+      let x = slice_index old.labels a in
+      let y = slice_index old.labels b in
+      let ends = ends_named S.task ok q c d at in (
+        (λ h. elim (brought_from old new a b a_in b_in joins apart labels h.0 h.1 (named c h.0 h.2) (named d h.1 h.3) h.4 h.5) [
+          | inl k ↦ (c, d, inl at, looks c h.0 x ends.0 h.2 k.0, looks d h.1 y ends.1 h.3 k.1)
+          | inr k ↦ (d, c, inr at, looks d h.1 x ends.1 h.3 k.1, looks c h.0 y ends.0 h.2 k.0)
+        ]),
+        (λ h. elim h.2 [
+          | inl k ↦ (let r = same_parts (slice_get S.task.pairs q) c d h.0 h.1 at k in
+              together c d ends.0 ends.1 (subst (λ e. LooksAt S old.labels e x) (sym r.0) h.3) (subst (λ e. LooksAt S old.labels e y) (sym r.1) h.4))
+          | inr k ↦ (let r = same_parts (slice_get S.task.pairs q) c d h.1 h.0 at k in
+              turned d c (together d c ends.1 ends.0 (subst (λ e. LooksAt S old.labels e x) (sym r.1) h.3) (subst (λ e. LooksAt S old.labels e y) (sym r.0) h.4)))
+        ]),
+      )

@@ -3,7 +3,7 @@ use Rattle.std.proofs.Common.{inl, inr, List, [], ℕ, Option, Some, None, lengt
 use Rattle.std.specs.Prelude.{MatchOption, All}
 use Rattle.std.proofs.lemmas.Bool.{cases_lt}
 use Rattle.chase_laws.proofs.CallerLemmas.{lean_bound, at_most_pairs, slice_get-from_Contains}
-use Rattle.chase_core.proofs.Entering.{ends_named}
+use Rattle.chase_core.proofs.Across.{ends_named}
 use Rattle.std.specs.List.{range_with_len}
 use Rattle.std.proofs.lemmas.List.{same_lists, get_or_default}
 use Rattle.chase_laws.specs.Core.{Task, IsTask, State, IsSound, Event, Happens, name_count, opening}

@@ -10,7 +10,7 @@ use Rattle.std.proofs.lemmas.Map.Made.{AllPairs-from_IsDistinct, IsDistinct-from
 use Rattle.std.proofs.lemmas.Cmp.{nat_eq_equiv}
 use Rattle.std.proofs.lemmas.Option.{slice_get_within}
 use Rattle.chase_laws.specs.declared.pair_state.PairState.TheVariants as state
-use Rattle.chase_laws.specs.Core.{Task, PairAt, IsTouched, Wakes, set_each}
+use Rattle.chase_laws.specs.Core.{Task, PairAt, AreBroughtTogether, Wakes, set_each}
 use Rattle.list_pool.specs.Pool.{without}
 use Rattle.class_book.specs.Classes.{Classes}
 use Rattle.chase_core.specs.Table.{Standings}
@@ -79,13 +79,13 @@ module _ (P : ℕ → Type 0) (zero one two three : Standings) (p : ℕ) (aside 
     last = ready_three ∙ ap (λ xs. xs ++ sorted) (s.ready ∙ ready_one);
   }
 
-  module _ (T : Task) (old new : Classes) (touched : (q a b : ℕ) → PairAt T q a b → IsTouched T (state_of old zero) (state_of new three) a b ↔ P q) where
+  module _ (T : Task) (old new : Classes) (brought : (q a b : ℕ) → PairAt T q a b → AreBroughtTogether T (state_of old zero) (state_of new three) a b ↔ P q) where
     pub wakes : Wakes T (state_of old zero) (state_of new three) p
     wakes = record {
       count = long;
       entered = still p not_pair ∙ at_pair;
-      woken = λ q a b other at missed t. risen q ((exact q).1 (elsewhere q other ∙ missed, (touched q a b at).0 t));
-      quiet = λ q a b other at missed quiet. still q (λ c. quiet ((touched q a b at).1 ((exact q).0 c).1)) ∙ elsewhere q other ∙ missed;
+      woken = λ q a b other at missed t. risen q ((exact q).1 (elsewhere q other ∙ missed, (brought q a b at).0 t));
+      quiet = λ q a b other at missed quiet. still q (λ c. quiet ((brought q a b at).1 ((exact q).0 c).1)) ∙ elsewhere q other ∙ missed;
       others = λ q other not_missed. still q (λ c. not_missed (sym (elsewhere q other) ∙ ((exact q).0 c).0)) ∙ elsewhere q other;
     }
 

@@ -1,9 +1,9 @@
 //! The state of a chase, of which one identification after another makes names the same. A `Setup` holds what the chase
 //! works on: the graph, the keys, the pairs of names that a key may identify, and what is near to each name. A `Chase`
 //! hands a pair out with a view of the present labels, and settles it by what a search with that view came to: what was
-//! found is always right and is entered, which makes pairs that missed before and look at a name with another label Ready
-//! again; that nothing was found is kept only where no label of the view has changed since. So pairs may be searched by
-//! many at once, in any order, and the classes come out the same.
+//! found is always right and is entered, which makes pairs that missed before Ready again where it makes one class of a
+//! name near to the one end and a name near to the other; that nothing was found is kept only where no label of the view has
+//! changed since. So pairs may be searched by many at once, in any order, and the classes come out the same.
 //!
 //! - `chase`: the chase and its calls
 //! - `setup`: what a chase works on
@@ -14,8 +14,7 @@
 //! - `take`: which pair is handed out
 //! - `show`: two lists of names, shown with their labels
 //! - `settle`: what becomes of a pair that was searched
-//! - `relabel`: an entry, and the names that it gives another label
-//! - `gather`: the pairs that look at relabelled names, set aside
+//! - `gather`: the pairs whose ends an entry brings together, set aside
 //! - `wake`: pairs that were set aside, made Ready
 //! - `recall`: pairs that are handed out, given back
 //! - `tried`: what a search for a pair comes to
@@ -25,7 +24,6 @@ mod chase;
 mod gather;
 pub mod held_law;
 mod recall;
-mod relabel;
 mod settle;
 mod setup;
 mod show;

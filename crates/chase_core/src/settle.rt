@@ -12,8 +12,7 @@ ghost use Rattle.chase_core.specs.Running.{state_of, running_with, journal_room}
 ghost use Rattle.chase_core.specs.Settling.{IsRightOutcome, IsFirstOvertaken, RiseInOrder, Settles, Notes};
 ghost use Rattle.chase_core.specs.Inner.{SettlesMissed};
 
-use crate::gather::gather_tail;
-use crate::relabel::enter_entry;
+use crate::gather::gather_across;
 use crate::table::PairTable;
 use crate::wake::wake_each;
 use crate::{Outcome, Settled, Setup, Ticket, Woken};
@@ -43,8 +42,8 @@ fn overtaken(setup: &Setup, book: &Book, ticket: Ticket, view: &View) -> Option<
     None
 }
 
-/// Enters what was found for a pair whose ends are not joined, and makes the Missed pairs Ready that look at a name with
-/// another label. It answers the place of the identification in the journal.
+/// Enters what was found for a pair whose ends are not joined, and makes the Missed pairs Ready whose ends it brings
+/// together. It answers the place of the identification in the journal.
 pub fn enter_found(
     setup: &Setup,
     book: &mut Book,
@@ -72,15 +71,15 @@ pub fn enter_found(
     law_core();
     setup.prepared();
     table.mark(pair, PairState::Joined);
-    let entered = enter_entry(book, entry);
-    // Two passes: the pairs are gathered as they look at the relabelled names, and made Ready afterwards, for they come
-    // in the names' order and have to wait in their own. A pair that is set aside is no longer Missed, so it is gathered
-    // once however many of the names it looks at.
+    // Before the entry labels tell its two classes. Two passes: the pairs are gathered as their ends look at these, and
+    // made Ready afterwards, for they come in the names' order and have to wait in their own. A pair that is set aside is
+    // no longer Missed, so it is gathered once however many of the names it looks at.
     aside.clear();
-    gather_tail(setup, book, table, entered.start, entered.count, aside);
+    gather_across(setup, book, table, entry.a, entry.b, aside);
+    let place = book.enter(entry);
     aside.sort_unstable();
     wake_each(table, aside, woken);
-    entered.place
+    place
 }
 
 /// Settles a pair that was searched and not found.
