@@ -5,6 +5,7 @@
 //! - `books`: a book of classes
 //! - `hands`: pairs in hand, and steps with them
 //! - `plays`: chases that are played step by step, with two pairs in hand at once
+//! - `wakings`: chases whose entries wake some Missed pairs and leave others
 //! - `wholes`: whole matches
 #![tactic(auto)]
 
@@ -16,5 +17,7 @@ mod hands;
 mod lists;
 #[cfg(test)]
 mod plays;
+#[cfg(test)]
+mod wakings;
 #[cfg(test)]
 mod wholes;

@@ -18,7 +18,7 @@ fn keys() -> &'static [PatternTable<'static>] {
 }
 
 /// The setup of a graph and two keys, by name and code and by name and next one, with its candidate pairs.
-fn setup_of(alloc: Global, table: &GraphTable<'_>) -> Result<Setup, Fail> {
+pub(crate) fn setup_of(alloc: Global, table: &GraphTable<'_>) -> Result<Setup, Fail> {
     let graph = table.build(alloc)?;
     let patterns = patterns_of(alloc, keys())?;
     let pairs = seed(alloc, &graph, &patterns, 100)?;
@@ -41,15 +41,15 @@ fn a_setup_answers_its_looks(rt: HostRuntime) -> Result<(), Fail> {
 }
 
 /// Steps with a chase, and what it has to come to.
-struct Play {
+pub(crate) struct Play {
     /// For how many woken pairs there is room.
-    room: u32,
+    pub(crate) room: u32,
     /// Each step with the hand that does it.
-    steps: &'static [(bool, Step)],
+    pub(crate) steps: &'static [(bool, Step)],
     /// How many identifications there are in the end.
-    entries: usize,
+    pub(crate) entries: usize,
     /// Some names with their labels in the end.
-    labels: &'static [(u32, u32)],
+    pub(crate) labels: &'static [(u32, u32)],
 }
 
 /// Whether a finished chase has so many identifications, and these names these labels.
@@ -62,7 +62,12 @@ fn is_matched(matched: &Matched, play: &Play) -> bool {
 }
 
 /// Plays the steps on a new chase and finishes it.
-fn plays(rt: &impl Abort, alloc: Global, setup: &Setup, steps: &Play) -> Result<(), Fail> {
+pub(crate) fn plays(
+    rt: &impl Abort,
+    alloc: Global,
+    setup: &Setup,
+    steps: &Play,
+) -> Result<(), Fail> {
     let mut chase = Chase::new(alloc, setup)?;
     let mut left = Hand::new(alloc, setup)?;
     let mut right = Hand::new(alloc, setup)?;
@@ -99,7 +104,7 @@ fn drains(rt: &impl Abort, alloc: Global, setup: &Setup, steps: &Play) -> Result
     Ok(())
 }
 
-const LEFT: bool = true;
+pub(crate) const LEFT: bool = true;
 
 const RIGHT: bool = false;
 
