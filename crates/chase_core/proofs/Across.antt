@@ -1,5 +1,5 @@
 -- Pairs that look at one class from one end and at another class from the other.
-use Rattle.std.proofs.Common.{ℕ, Some, Contains, length, slice_index, ◌≡◌, ◌<◌, ◌↔◌, inl, inr, sym, arith}
+use Rattle.std.proofs.Common.{ℕ, Contains, length, slice_index, ◌≡◌, ◌<◌, ◌↔◌, inl, inr, sym, arith}
 use Rattle.chase_laws.specs.Core.{Task, IsTask, name_count, PairAt}
 use Rattle.chase_laws.proofs.CallerLemmas.{near_named, All-at}
 use Rattle.list_pool.specs.Pool.{list_at}

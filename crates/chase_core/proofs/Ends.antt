@@ -1,5 +1,5 @@
 -- The ends of a pair.
-use Rattle.std.proofs.Common.{List, ℕ, Option, Some, length, slice_get, unwrap_or, ◌≡◌, ◌<◌, inl, inr, refl, sym, ◌∙◌, ap}
+use Rattle.std.proofs.Common.{List, ℕ, Option, Some, length, unwrap_or, ◌≡◌, ◌<◌, inl, inr, refl, sym, ◌∙◌, ap}
 use Rattle.std.proofs.lemmas.Option.{slice_get_within}
 use Rattle.near_lists.specs.Turning.{HasEnd}
 use Rattle.chase_core.specs.Gathering.{HasEnds}

@@ -1,10 +1,9 @@
 -- Which pairs an entry wakes.
-use Rattle.std.proofs.Common.{ℕ, slice_index, length, min, ◌≡◌, ◌≢◌, ◌<◌, ◌-◌, ◌+◌, ◌↔◌, inl, inr, sym, ◌∙◌, subst, arith, Contains, slice_get}
+use Rattle.std.proofs.Common.{ℕ, slice_index, length, min, ◌≡◌, ◌≢◌, ◌<◌, ◌-◌, ◌+◌, ◌↔◌, inl, inr, sym, ◌∙◌, subst, arith, slice_get}
 use Rattle.chase_laws.specs.Near.{IsNear}
 use Rattle.chase_laws.specs.Joined.{LabelsJoin}
 use Rattle.chase_laws.specs.Core.{IsTask, name_count, PairAt, AreBroughtTogether}
 use Rattle.chase_laws.proofs.CallerLemmas.{near_named}
-use Rattle.list_pool.specs.Pool.{list_at}
 use Rattle.class_book.specs.Classes.{Classes, relabelled, staying, going}
 use Rattle.chase_core.specs.Setup.{Preparation, IsNearTo}
 use Rattle.chase_core.specs.Table.{Standings}

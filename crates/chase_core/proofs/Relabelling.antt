@@ -1,5 +1,5 @@
 -- Which names an entry brings into one class.
-use Rattle.std.proofs.Common.{ℕ, List, slice_index, length, eq-eqb, ne_eqb, cond, ◌≡◌, ◌≢◌, ◌<◌, ◌⊎◌, inl, inr, sym, ◌∙◌, ap}
+use Rattle.std.proofs.Common.{ℕ, slice_index, length, eq-eqb, ne_eqb, cond, ◌≡◌, ◌≢◌, ◌<◌, ◌⊎◌, inl, inr, sym, ◌∙◌, ap}
 use Rattle.std.proofs.lemmas.Bool.{cases_eq}
 use Rattle.std.proofs.lemmas.List.{get_or-map}
 use Rattle.chase_laws.specs.Joined.{LabelsJoin}

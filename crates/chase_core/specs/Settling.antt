@@ -1,5 +1,5 @@
 -- What settling a pair does, and what it answers (this project's own).
-use Rattle.std.specs.Prelude.{List, [], ◌∷◌, ◌++◌, ℕ, Some, Contains, length, take, slice_get, slice_set, slice_index, ◌≡◌, ◌≢◌, ◌<◌, ◌↔◌}
+use Rattle.std.specs.Prelude.{List, [], ◌∷◌, ◌++◌, ℕ, Some, Contains, length, take, slice_get, slice_index, ◌≡◌, ◌≢◌, ◌<◌, ◌↔◌}
 use Rattle.std.specs.List.Sorted.{IsStrictlyIncreasing}
 use Rattle.chase_laws.specs.declared.entry.Entry.{Entry}
 use Rattle.chase_laws.specs.declared.pair_state.PairState.{PairState}
@@ -11,7 +11,6 @@ use Rattle.chase_laws.specs.Chase.{IsStep}
 use Rattle.chase_laws.specs.Core.{Task, State, Happens}
 use Rattle.chase_laws.specs.Core.Event.{Enter, Already as AlreadyJoined, Miss, Reopen}
 use Rattle.list_pool.specs.Pool.{without}
-use Rattle.class_book.specs.Classes.{Classes}
 use Rattle.paired_search.specs.declared.all_keys.Finding.{Finding}
 use Rattle.chase_core.specs.declared.ticket.Ticket.{Ticket}
 use Rattle.chase_core.specs.declared.ticket.Outcome.{Outcome}

@@ -1,14 +1,10 @@
 -- What a chase works on, prepared (this project's own).
-use Rattle.std.specs.Prelude.{List, ℕ, All, Any, Contains, length, min, ◌≡◌, ◌<◌, ◌≤◌, ◌+◌, ◌^◌, ◌⊎◌, ◌↔◌}
-use Rattle.std.specs.List.Sorted.{IsStrictlyIncreasing}
+use Rattle.std.specs.Prelude.{List, ℕ, All, Any, Contains, length, min, ◌≡◌, ◌<◌, ◌≤◌, ◌+◌, ◌⊎◌, ◌↔◌}
 use Rattle.chase_laws.specs.Near.{IsNear}
-use Rattle.chase_laws.specs.Candidate.{AreAscending}
-use Rattle.chase_laws.specs.Core.{Task, IsTask, name_count}
+use Rattle.chase_laws.specs.Core.{Task, name_count}
 use Rattle.key_plan.specs.Route.{Route}
-use Rattle.paired_search.specs.Plans.{ArePlans}
 use Rattle.list_pool.specs.Pool.{list_at}
 use Rattle.near_lists.specs.Neighbourhoods.{Neighbourhoods}
-use Rattle.near_lists.specs.Turning.{HasEnd}
 
 -- a task, the plan of each key, what is near to each name, and a room that suffices for the view of any pair
 pub record Preparation : Type 0 where

@@ -1,6 +1,5 @@
 -- Where the pairs of a chase stand, and which of them wait for a search, in order (this project's own).
-use Rattle.std.specs.Prelude.{List, ℕ, AllPairs, Contains, Some, length, slice_get, ◌≡◌, ◌≢◌, ◌↔◌}
-use Rattle.list_pool.specs.Pool.{list_at}
+use Rattle.std.specs.Prelude.{List, ℕ, AllPairs, Contains, Some, slice_get, ◌≡◌, ◌≢◌, ◌↔◌}
 use Rattle.chase_laws.specs.declared.pair_state.PairState.{PairState}
 use Rattle.chase_laws.specs.declared.pair_state.PairState.TheVariants as state
 

@@ -56,7 +56,7 @@ IsPresent S view = (n l : ℕ) → label_in view n ≡ Some l → l ≡ slice_in
 abbrev pub IsOvertaken : State → List (ℕ × ℕ) → Type 0
 IsOvertaken S view = (n l : ℕ) × (label_in view n ≡ Some l) × (l ≢ slice_index S.labels n)
 
--- two ends are brought together: a name near to the one and a name near to the other had two labels before, and have one now
+-- two ends are brought together: a name near to the one and a name near to the other had two labels, and have one now
 abbrev pub AreBroughtTogether : Task → State → State → ℕ → ℕ → Type 0
 AreBroughtTogether T old new a b =
     (m n : ℕ) × IsNear T.graph T.patterns a m × IsNear T.graph T.patterns b n

@@ -1,7 +1,6 @@
 -- Pair by pair.
-use Rattle.std.proofs.Common.{ℕ, ◌≡◌, Contains, take, get_or, subst, sym, ◌∙◌, refl, inl, inr, take_all}
+use Rattle.std.proofs.Common.{ℕ, ◌≡◌, Contains, take, get_or, subst, sym, ◌∙◌, refl, take_all}
 use Rattle.std.proofs.lemmas.List.Elements.{Contains-get_or}
-use Rattle.near_lists.specs.Turning.{HasEnd}
 use Rattle.chase_core.specs.Gathering.{LooksFrom}
 use Rattle.chase_core.proofs.Members.{Contains-nil}
 use Rattle.chase_core.proofs.Ends.{end_of}

@@ -1,5 +1,5 @@
 -- What is set aside is what the entry brings together.
-use Rattle.std.proofs.Common.{ℕ, ◌≡◌, ◌≢◌, ◌<◌, [], Some, length, slice_get, slice_index}
+use Rattle.std.proofs.Common.{◌≡◌, ◌≢◌, ◌<◌, [], Some, length, slice_get, slice_index}
 use Rattle.std.proofs.lemmas.Option.{slice_get_within}
 use Rattle.std.proofs.lemmas.List.Sorted.{All-permutation}
 use Rattle.chase_laws.specs.declared.pair_state.PairState.TheVariants as state
