@@ -17,6 +17,7 @@ mod SideLemmas
 mod SplitLemmas
 mod ProgressLemmas
 mod OnceLemmas
+mod ReadableLemmas
 mod TotalLemmas
 mod LineLemmas
 mod ReadLemmas

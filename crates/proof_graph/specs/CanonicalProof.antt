@@ -1,12 +1,14 @@
 -- The canonical text of a proof, in version 2, one among those that say it: each term once, in order of first occurrence; single
 -- spaces, canonical terms and line feeds (this project's own).
-use Rattle.std.specs.Prelude.{List, [], ◌∷◌, ◌++◌, ℕ, ◌+◌, map, length, codes}
+use Rattle.std.specs.Prelude.{List, [], ◌∷◌, ◌++◌, ℕ, ◌+◌, ◌^◌, ◌<◌, true, All, map, length, codes, ◌≡◌}
 use Rattle.std.specs.List.{flat_map}
 use Rattle.std.specs.Fmt.{decimal}
 use Rattle.gk_base.specs.declared.term.Term.{Term}
 use Rattle.term_table.specs.Numbering.{names_of}
 use Rattle.term_text.specs.CanonicalText.{term_text}
-use Rattle.proof_graph.specs.Steps.{SupportShape, StepShape, StepNumbers, steps_terms, in_numbers}
+use Rattle.term_text.specs.ReadBack.{CanBeSpelled}
+use Rattle.key_file.specs.Name.{is_name}
+use Rattle.proof_graph.specs.Steps.{SupportShape, StepShape, StepNumbers, step_terms, steps_terms, in_numbers}
 
 -- numbers, each with a space before it
 abbrev pub numbers_text : List ℕ → List ℕ
@@ -47,3 +49,23 @@ numbered_text terms steps =
 -- the text of a proof
 abbrev pub proof_text : List StepShape → List ℕ
 proof_text steps = let terms = names_of (steps_terms steps) in numbered_text terms (map (in_numbers terms) steps)
+
+-- a support whose slot and numbers have the form that a line of a proof file has
+abbrev pub HasSupportForm : SupportShape → Type 0
+HasSupportForm support = (support.slot < 16) × All (λ n. (0 < n) × (n < 2 ^ 32)) support.steps
+
+-- a step whose parts have the form that lines of a proof file have: a name, at least one term on either side, terms that can
+-- be spelled, and supports
+pub record HasStepForm (step : StepShape) : Type 0 where
+  pub key : is_name step.key ≡ true
+  pub left_some : 0 < length step.left
+  pub right_some : 0 < length step.right
+  pub spelled : All CanBeSpelled (step_terms step)
+  pub supports : All HasSupportForm step.supports
+
+-- a proof whose text is read as the same proof: its parts have the form of lines, and its distinct terms and its steps are as
+-- few as have numbers of four bytes
+pub record CanBeRead (steps : List StepShape) : Type 0 where
+  pub each : All HasStepForm steps
+  pub few_terms : length (names_of (steps_terms steps)) < 2 ^ 32
+  pub few_steps : length steps < 2 ^ 32

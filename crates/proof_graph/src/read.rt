@@ -1,9 +1,10 @@
 //! Reads a proof file.
 
-ghost use Rattle.std.specs.Prelude.{◌≡◌, List, Result, IfOk, OnOk, All, length, map, take};
+ghost use Rattle.std.specs.Prelude.{◌≡◌, ◌<◌, ◌^◌, List, Result, IfOk, OnOk, All, length, map, take};
 ghost use Rattle.gk_base.specs.Answers.{IsSo, Gives};
 ghost use Rattle.proof_graph.specs.Steps.{StepShape, step_terms, step_with, in_numbers, IsNumberedBelow};
 ghost use Rattle.proof_graph.specs.ProofText.{ProofSays, proof_ended};
+ghost use Rattle.proof_graph.specs.CanonicalProof.{CanBeRead};
 ghost use Rattle.proof_graph.specs.Progress.{state_of, IsBelow};
 ghost use Rattle.proof_graph.specs.ReadLines.{next_number};
 ghost use Rattle.proof_graph.specs.declared.fault.ProofRefusal.{ProofRefusal};
@@ -138,6 +139,8 @@ pub fn read_proof(alloc: Global, bytes: &[u8], limit: u64) -> Result<Proof, Proo
     ensures says { IsSo (ProofSays limit bytes.now) result }
     // What the file says was answered, unless memory ran out.
     ensures only { (answer : Result (List StepShape) ProofRefusal) → ProofSays limit bytes.now answer → Gives result answer }
+    // What was read can be written and read again, where the limit is below that of `u32`.
+    ensures readable { limit < 2 ^ 32 → IfOk result CanBeRead }
 {
     proof_answer(alloc, bytes, limit)
 }
