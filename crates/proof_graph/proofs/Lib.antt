@@ -18,6 +18,9 @@ mod SplitLemmas
 mod ProgressLemmas
 mod OnceLemmas
 mod ReadableLemmas
+mod FormLemmas
+mod ReadBack
+mod ToldLemmas
 mod TotalLemmas
 mod LineLemmas
 mod ReadLemmas

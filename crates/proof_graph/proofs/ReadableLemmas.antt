@@ -137,7 +137,8 @@ side_good word line terms version answer all text.by_numbers = let few = words_f
 
 -- ---- supports
 
-abbrev AreStepNumbers : List ℕ → Type 0
+-- numbers of steps as a line may have them
+abbrev pub AreStepNumbers : List ℕ → Type 0
 AreStepNumbers ns = All (λ n. (0 < n) × (n < 2 ^ 32)) ns
 
 steps_good : (words : List (List ℕ)) → IfSome (step_numbers words) AreStepNumbers
@@ -401,6 +402,29 @@ says_readable limit bytes answer small says = subst Can (sym says.2) (after says
         let few = lines_bytes bytes in
         let good = lines_good 0 (bytes_in (lines bytes)) proof_start 1 (lines bytes) (Ok p) (omega arith) start_readable (subst (λ l. ProofLinesSay proof_start 1 l (Ok p)) all lines_say) in
         ended_good (bytes_in (lines bytes)) p p.stage (length (lines bytes)) (omega arith) good.steps_form good.stage_form good.few)
+
+-- a proof file that says steps is within the limit
+pub says_within : (limit : ℕ) (bytes : List ℕ) (answer : Result (List StepShape) ProofRefusal) → ProofSays limit bytes answer → IfOk answer (λ steps. length bytes ≤ limit)
+says_within limit bytes answer says = subst Fits (sym says.2) (after says.0)
+  where
+    Fits : Result (List StepShape) ProofRefusal → Type 0
+    Fits r = IfOk r (λ steps. length bytes ≤ limit)
+
+    at_end : (p : ProofState) (stage : StageShape) (last : ℕ) → length bytes ≤ limit → Fits (proof_ended p stage last)
+    at_end p AtHeader last fits = tt
+    at_end p AtCount last fits = tt
+    at_end p (AtTerm n) last fits = tt
+    at_end p AtStep last fits = tt
+    at_end p (AtLeft key) last fits = tt
+    at_end p (AtRight key left) last fits = tt
+    at_end p (AtSupport step) last fits = tt
+    at_end p AtEnd last fits = fits
+
+    after : (read : Result ProofState ProofRefusal) → Fits (proof_or_refusal limit bytes read)
+    after (Err refusal) = tt
+    after (Ok p) =
+        cond_both (nat_lt limit (length bytes)) (Err (record { line = line_of_next (take limit bytes) (slice_index bytes limit); fault = FileTooLong })) (proof_ended p p.stage (length (lines bytes))) Fits
+        (λ _. tt) (λ test. at_end p p.stage (length (lines bytes)) (ltb-false limit (length bytes) test))
 
 -- so what was answered can be read
 pub readable_told : (limit : ℕ) (bytes : List ℕ) (r : Result (List StepShape) (Stop ProofRefusal)) → IsSo (ProofSays limit bytes) r → limit < 2 ^ 32 → IfOk r CanBeRead

@@ -94,15 +94,16 @@ first_of_words line begin end blanks run inside =
 
 -- ---- decimal digits
 
-record IsDigits (n : ℕ) (ds : List ℕ) : Type 0 where
-  value : value_of ds ≡ n
-  pass : list_all no_blank ds ≡ true
-  some : 0 < length ds
+-- the digits are a word that stands for the number
+pub record IsDigits (n : ℕ) (ds : List ℕ) : Type 0 where
+  pub value : value_of ds ≡ n
+  pub pass : list_all no_blank ds ≡ true
+  pub some : 0 < length ds
 
 digit_passes : (n : ℕ) → n < 10 → no_blank (48 + n) ≡ true
 digit_passes n h = ap not (or_from _ _ (ne_eqb (48 + n) 0x20 (λ e. absurd (omega arith))) (ne_eqb (48 + n) 0x09 (λ e. absurd (omega arith))))
 
-decimal_digits : (n : ℕ) → n < 2 ^ 64 → IsDigits n (decimal n)
+pub decimal_digits : (n : ℕ) → n < 2 ^ 64 → IsDigits n (decimal n)
 decimal_digits = decimal_by_steps IsDigits
     (λ n h. record { value = omega arith; pass = and_from _ _ (digit_passes n h) refl; some = omega arith })
     (λ n ds h p. let l = length-append ds ((48 + n % 10) ∷ []) in let s = p.some in record {

@@ -50,7 +50,7 @@ mod words;
 pub use build::build_proof;
 pub use canonical::put_proof;
 pub use fault::{ProofFault, ProofRefusal, ProofStop};
-pub use laws::law_one_proof_answer;
+pub use laws::{law_one_proof_answer, law_proof_read_back};
 pub use proof::Proof;
 pub use read::read_proof;
 pub use slot_support::Support;
