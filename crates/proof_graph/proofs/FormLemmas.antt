@@ -17,7 +17,7 @@ use Rattle.term_table.proofs.CallerLemmas.{place_of-within, slice_get-place_of}
 use Rattle.proof_graph.specs.Steps.{SupportShape}
 use Rattle.proof_graph.specs.CanonicalProof.{numbers_text, HasSupportForm}
 use Rattle.proof_graph.specs.Words.{no_blank, words_of, two_of, decimal_number}
-use Rattle.proof_graph.specs.ProofText.{in_range, numbered_one, one_before, numbered_all, numbered_side, number_before, step_numbers, support_of, support_or_done_of, or_bad_line, count_of, step_or_end_of, end_of}
+use Rattle.proof_graph.specs.ProofText.{or_out_of_range, numbered_one, one_before, numbered_all, numbered_side, number_before, step_numbers, support_of, support_or_done_of, or_bad_line, count_of, step_or_end_of, end_of}
 use Rattle.proof_graph.specs.declared.step_or_end.StepOrEnd.TheVariants.{Begins, Ends}
 use Rattle.proof_graph.specs.declared.fault.ProofFault.{ProofFault}
 use Rattle.proof_graph.specs.declared.fault.ProofFault.TheVariants.{BadLine}
@@ -112,7 +112,7 @@ end_says n small =
 named_one : (terms : List Term) (t : Term) → length terms < 2 ^ 32 → is_named terms t ≡ true → numbered_one terms (decimal_number 1 (decimal (place_of terms t + 1))) ≡ Ok t
 named_one terms t few named =
     let within = place_of-within terms t named in
-    ap (numbered_one terms) (number_back 1 (place_of terms t + 1) (omega arith) (omega arith)) ∙ ap (λ n. in_range (slice_get terms n)) (back (place_of terms t)) ∙ ap in_range (slice_get-place_of terms t named)
+    ap (numbered_one terms) (number_back 1 (place_of terms t + 1) (omega arith) (omega arith)) ∙ ap (λ n. or_out_of_range (slice_get terms n)) (back (place_of terms t)) ∙ ap or_out_of_range (slice_get-place_of terms t named)
   where
     back : (n : ℕ) → n + 1 - 1 ≡ n
     back n = omega arith

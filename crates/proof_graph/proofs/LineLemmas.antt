@@ -14,7 +14,7 @@ use Rattle.proof_graph.specs.declared.stage.Stage.{Stage}
 use Rattle.proof_graph.specs.declared.stage.Stage.TheVariants as stage
 use Rattle.proof_graph.specs.declared.progress.Known.{Known}
 use Rattle.proof_graph.specs.declared.progress.Progress.{Progress}
-use Rattle.proof_graph.specs.Progress.{ProofLineStop, AreBelow, SideTold, stage_with, state_with, state_of, IsKnownBelow, IsStageBelow, IsBelow, IsDone}
+use Rattle.proof_graph.specs.Progress.{ProofLineStop, AreBelow, SideTold, stage_with, state_with, progress_with, IsKnownBelow, IsStageBelow, IsBelow, IsDone}
 use Rattle.proof_graph.proofs.SideLemmas.{terms_stay, below_stays}
 use Rattle.proof_graph.proofs.ProgressLemmas.{steps_stay, known_below_stays, known_stays}
 
@@ -25,7 +25,7 @@ step_came known steps = record { known = record { version = known.version; liste
 -- a step is done
 pub step_done : (names : List Term) (known : Known) (step : StepNumbers) (steps : Vec StepNumbers Global) (said : Result (Option SupportShape) ProofFault) → steps.items ≡ known.steps.items ++ step ∷ [] → Ok None ≡ said →
     IsKnownBelow (length names) known → IsNumberedBelow (length names) step →
-    (Ok (state_of names (step_came known steps)) ≡ after_support_or_done (state_with names known (AtSupport (step_with names step))) (step_with names step) said) × IsBelow (length names) (step_came known steps)
+    (Ok (progress_with names (step_came known steps)) ≡ after_support_or_done (state_with names known (AtSupport (step_with names step))) (step_with names step) said) × IsBelow (length names) (step_came known steps)
 step_done names known step steps said is says below inside = (
   ap (λ ss. Ok (record { version = known.version; terms = map (term_at names) known.listed.items; steps = ss; stage = AtStep })) (ap (map (step_with names)) is ∙ map_push (step_with names) known.steps.items step)
       ∙ ap (after_support_or_done (state_with names known (AtSupport (step_with names step))) (step_with names step)) says,
@@ -45,7 +45,7 @@ term_came known listed s = record { known = record { version = known.version; li
 -- a term is listed
 pub term_done : (names more : List Term) (known : Known) (count number : ℕ) (listed : Vec ℕ Global) (s : Stage) → listed.items ≡ known.listed.items ++ number ∷ [] → HasMoreNames names more → IsKnownBelow (length names) known →
     number < length more → stage_with more s ≡ stage_of_terms (count - 1) → IsStageBelow (length more) s →
-    (Ok (state_of more (term_came known listed s)) ≡ after_term (state_with names known (AtTerm count)) count (Ok (term_at more number))) × IsBelow (length more) (term_came known listed s)
+    (Ok (progress_with more (term_came known listed s)) ≡ after_term (state_with names known (AtTerm count)) count (Ok (term_at more number))) × IsBelow (length more) (term_came known listed s)
 term_done names more known count number listed s is grown below named at inside =
     let terms : map (term_at more) listed.items ≡ map (term_at names) known.listed.items ++ term_at more number ∷ [] =
     ap (map (term_at more)) is ∙ map_push (term_at more) known.listed.items number ∙ ap (λ ts. ts ++ term_at more number ∷ []) (terms_stay names more known.listed.items grown below.listed)
@@ -94,6 +94,6 @@ right_stops names p key line left (Fault fault) told = (Err fault, told, refl)
 
 -- a line of text says what it says where it stands
 pub text_done : (names : List Term) (p : ProofState) (line : List ℕ) (r : Result Progress ProofLineStop) → IsUtf8 line → IsDone names (StageSays p p.stage line) r → IsDone names (ProofLineSays p line) r
-text_done names p line (Ok next) utf8 done = (text.text utf8 done.0, done.1)
+text_done names p line (Ok next) utf8 done = (text.in_utf8 utf8 done.0, done.1)
 text_done names p line (Err NoMemory) utf8 done = tt
-text_done names p line (Err (Fault fault)) utf8 done = text.text utf8 done
+text_done names p line (Err (Fault fault)) utf8 done = text.in_utf8 utf8 done

@@ -54,24 +54,24 @@ term_in (Err f) = None
 
 terms_once : (line : List ℕ) (at : ℕ) (a b : Result (List Term) ProofFault) → TermsSay line at a → TermsSay line at b → a ≡ b
 terms_once line at a b (text.no_more r) (text.no_more s) = refl
-terms_once line at a b (text.no_more r) (text.no_term s l e) = absurd (l (run_once is_blank line at _ _ s r))
+terms_once line at a b (text.no_more r) (text.not_a_term s l e) = absurd (l (run_once is_blank line at _ _ s r))
 terms_once line at a b (text.no_more r) (text.bad_term s e x) = absurd (ends_inside line at _ r s e)
-terms_once line at a b (text.no_more r) (text.one_more s e x t) = absurd (ends_inside line at _ r s e)
+terms_once line at a b (text.no_more r) (text.term_then s e x t) = absurd (ends_inside line at _ r s e)
 terms_once line at a b (text.no_more r) (text.bad_later s e x t) = absurd (ends_inside line at _ r s e)
-terms_once line at a b (text.no_term r l d) (text.no_more s) = absurd (l (run_once is_blank line at _ _ r s))
-terms_once line at a b (text.no_term r l d) (text.no_term s m e) = refl
-terms_once line at a b (text.no_term r l d) (text.bad_term s e x) = absurd (true≢false (begins_at line at _ _ true false s r e d))
-terms_once line at a b (text.no_term r l d) (text.one_more s e x t) = absurd (true≢false (begins_at line at _ _ true false s r e d))
-terms_once line at a b (text.no_term r l d) (text.bad_later s e x t) = absurd (true≢false (begins_at line at _ _ true false s r e d))
+terms_once line at a b (text.not_a_term r l d) (text.no_more s) = absurd (l (run_once is_blank line at _ _ r s))
+terms_once line at a b (text.not_a_term r l d) (text.not_a_term s m e) = refl
+terms_once line at a b (text.not_a_term r l d) (text.bad_term s e x) = absurd (true≢false (begins_at line at _ _ true false s r e d))
+terms_once line at a b (text.not_a_term r l d) (text.term_then s e x t) = absurd (true≢false (begins_at line at _ _ true false s r e d))
+terms_once line at a b (text.not_a_term r l d) (text.bad_later s e x t) = absurd (true≢false (begins_at line at _ _ true false s r e d))
 terms_once line at a b (text.bad_term r d w) (text.no_more s) = absurd (ends_inside line at _ s r d)
-terms_once line at a b (text.bad_term r d w) (text.no_term s l e) = absurd (true≢false (begins_at line at _ _ true false r s d e))
+terms_once line at a b (text.bad_term r d w) (text.not_a_term s l e) = absurd (true≢false (begins_at line at _ _ true false r s d e))
 terms_once line at a b (text.bad_term {fault = f} r d w) (text.bad_term {fault = g} s e x) = let h = says_at line at _ _ (Err f) (Err g) r s w x in let k : f ≡ g = cc in ap (λ q. Err (Lex q)) k
-terms_once line at a b (text.bad_term r d w) (text.one_more s e x t) = absurd (mixed line at _ _ _ _ r s w x)
+terms_once line at a b (text.bad_term r d w) (text.term_then s e x t) = absurd (mixed line at _ _ _ _ r s w x)
 terms_once line at a b (text.bad_term r d w) (text.bad_later s e x t) = absurd (mixed line at _ _ _ _ r s w x)
-terms_once line at a b (text.one_more r d w u) (text.no_more s) = absurd (ends_inside line at _ s r d)
-terms_once line at a b (text.one_more r d w u) (text.no_term s l e) = absurd (true≢false (begins_at line at _ _ true false r s d e))
-terms_once line at a b (text.one_more r d w u) (text.bad_term s e x) = absurd (mixed line at _ _ _ _ s r x w)
-terms_once line at a b (text.one_more {end = m} {term = p} {terms = ps} r d w u) (text.one_more {end = n} {term = q} {terms = qs} s e x t) =
+terms_once line at a b (text.term_then r d w u) (text.no_more s) = absurd (ends_inside line at _ s r d)
+terms_once line at a b (text.term_then r d w u) (text.not_a_term s l e) = absurd (true≢false (begins_at line at _ _ true false r s d e))
+terms_once line at a b (text.term_then r d w u) (text.bad_term s e x) = absurd (mixed line at _ _ _ _ s r x w)
+terms_once line at a b (text.term_then {end = m} {term = p} {terms = ps} r d w u) (text.term_then {end = n} {term = q} {terms = qs} s e x t) =
     let h = says_at line at _ _ (Ok (p, m)) (Ok (q, n)) r s w x in
     let kk : Some p ≡ Some q = ap term_in h in
     let k : p ≡ q = cc in
@@ -79,14 +79,14 @@ terms_once line at a b (text.one_more {end = m} {term = p} {terms = ps} r d w u)
     let ih = terms_once line m (Ok ps) (Ok qs) u (subst (λ i. TermsSay line i (Ok qs)) (sym l) t) in
     let j : ps ≡ qs = cc in
     λ i. Ok (k i ∷ j i)
-terms_once line at a b (text.one_more {end = m} {term = p} {terms = ps} r d w u) (text.bad_later {end = n} {term = q} {fault = g} s e x t) =
+terms_once line at a b (text.term_then {end = m} {term = p} {terms = ps} r d w u) (text.bad_later {end = n} {term = q} {fault = g} s e x t) =
     let h = says_at line at _ _ (Ok (p, m)) (Ok (q, n)) r s w x in
     let l : m ≡ n = ap end_in h in
     absurd (conflict ps g (terms_once line m (Ok ps) (Err g) u (subst (λ i. TermsSay line i (Err g)) (sym l) t)))
 terms_once line at a b (text.bad_later r d w u) (text.no_more s) = absurd (ends_inside line at _ s r d)
-terms_once line at a b (text.bad_later r d w u) (text.no_term s l e) = absurd (true≢false (begins_at line at _ _ true false r s d e))
+terms_once line at a b (text.bad_later r d w u) (text.not_a_term s l e) = absurd (true≢false (begins_at line at _ _ true false r s d e))
 terms_once line at a b (text.bad_later r d w u) (text.bad_term s e x) = absurd (mixed line at _ _ _ _ s r x w)
-terms_once line at a b (text.bad_later {end = m} {term = p} {fault = f} r d w u) (text.one_more {end = n} {term = q} {terms = qs} s e x t) =
+terms_once line at a b (text.bad_later {end = m} {term = p} {fault = f} r d w u) (text.term_then {end = n} {term = q} {terms = qs} s e x t) =
     let h = says_at line at _ _ (Ok (p, m)) (Ok (q, n)) r s w x in
     let l : m ≡ n = ap end_in h in
     absurd (conflict qs f (sym (terms_once line m (Err f) (Ok qs) u (subst (λ i. TermsSay line i (Ok qs)) (sym l) t))))
@@ -100,21 +100,21 @@ followed_once : (line : List ℕ) (m n after : ℕ) (x y : Term) → ◌≡◌ {
 followed_once line m n after x y same run other more = more (run_once is_blank line n after (length line) other (subst (λ i. IsRunAt is_blank line i (length line)) (ap end_in same) run))
 
 one_term_once : (line : List ℕ) (a b : Result Term ProofFault) → OneTermSays line a → OneTermSays line b → a ≡ b
-one_term_once line a b (text.no_term r d) (text.no_term s e) = refl
-one_term_once line a b (text.no_term r d) (text.bad_term s e x) = absurd (true≢false (begins_at line 0 _ _ true false s r e d))
-one_term_once line a b (text.no_term r d) (text.alone s e x t) = absurd (true≢false (begins_at line 0 _ _ true false s r e d))
-one_term_once line a b (text.no_term r d) (text.followed s e x t n) = refl
-one_term_once line a b (text.bad_term r d w) (text.no_term s e) = absurd (true≢false (begins_at line 0 _ _ true false r s d e))
+one_term_once line a b (text.not_a_term r d) (text.not_a_term s e) = refl
+one_term_once line a b (text.not_a_term r d) (text.bad_term s e x) = absurd (true≢false (begins_at line 0 _ _ true false s r e d))
+one_term_once line a b (text.not_a_term r d) (text.only_term s e x t) = absurd (true≢false (begins_at line 0 _ _ true false s r e d))
+one_term_once line a b (text.not_a_term r d) (text.followed s e x t n) = refl
+one_term_once line a b (text.bad_term r d w) (text.not_a_term s e) = absurd (true≢false (begins_at line 0 _ _ true false r s d e))
 one_term_once line a b (text.bad_term {fault = f} r d w) (text.bad_term {fault = g} s e x) = let h = says_at line 0 _ _ (Err f) (Err g) r s w x in let k : f ≡ g = cc in ap (λ q. Err (Lex q)) k
-one_term_once line a b (text.bad_term r d w) (text.alone s e x t) = absurd (mixed line 0 _ _ _ _ r s w x)
+one_term_once line a b (text.bad_term r d w) (text.only_term s e x t) = absurd (mixed line 0 _ _ _ _ r s w x)
 one_term_once line a b (text.bad_term r d w) (text.followed s e x t n) = absurd (mixed line 0 _ _ _ _ r s w x)
-one_term_once line a b (text.alone r d w u) (text.no_term s e) = absurd (true≢false (begins_at line 0 _ _ true false r s d e))
-one_term_once line a b (text.alone r d w u) (text.bad_term s e x) = absurd (mixed line 0 _ _ _ _ s r x w)
-one_term_once line a b (text.alone {end = m} {term = p} r d w u) (text.alone {end = n} {term = q} s e x t) = let h = says_at line 0 _ _ (Ok (p, m)) (Ok (q, n)) r s w x in let kk : Some p ≡ Some q = ap term_in h in let k : p ≡ q = cc in ap Ok k
-one_term_once line a b (text.alone {end = m} {term = p} r d w u) (text.followed {end = n} {after = k} {term = q} s e x t m2) = absurd (followed_once line m n k p q (says_at line 0 _ _ (Ok (p, m)) (Ok (q, n)) r s w x) u t m2)
-one_term_once line a b (text.followed r d w u m1) (text.no_term s e) = refl
+one_term_once line a b (text.only_term r d w u) (text.not_a_term s e) = absurd (true≢false (begins_at line 0 _ _ true false r s d e))
+one_term_once line a b (text.only_term r d w u) (text.bad_term s e x) = absurd (mixed line 0 _ _ _ _ s r x w)
+one_term_once line a b (text.only_term {end = m} {term = p} r d w u) (text.only_term {end = n} {term = q} s e x t) = let h = says_at line 0 _ _ (Ok (p, m)) (Ok (q, n)) r s w x in let kk : Some p ≡ Some q = ap term_in h in let k : p ≡ q = cc in ap Ok k
+one_term_once line a b (text.only_term {end = m} {term = p} r d w u) (text.followed {end = n} {after = k} {term = q} s e x t m2) = absurd (followed_once line m n k p q (says_at line 0 _ _ (Ok (p, m)) (Ok (q, n)) r s w x) u t m2)
+one_term_once line a b (text.followed r d w u m1) (text.not_a_term s e) = refl
 one_term_once line a b (text.followed r d w u m1) (text.bad_term s e x) = absurd (mixed line 0 _ _ _ _ s r x w)
-one_term_once line a b (text.followed {end = m} {after = k} {term = p} r d w u m1) (text.alone {end = n} {term = q} s e x t) = absurd (followed_once line n m k q p (says_at line 0 _ _ (Ok (q, n)) (Ok (p, m)) s r x w) t u m1)
+one_term_once line a b (text.followed {end = m} {after = k} {term = p} r d w u m1) (text.only_term {end = n} {term = q} s e x t) = absurd (followed_once line n m k q p (says_at line 0 _ _ (Ok (q, n)) (Ok (p, m)) s r x w) t u m1)
 one_term_once line a b (text.followed r d w u m1) (text.followed s e x t m2) = refl
 
 -- one word comes first
@@ -146,18 +146,18 @@ stage_once p (AtSupport step) line a b x y = x ∙ sym y
 stage_once p AtEnd line a b x y = x ∙ sym y
 
 line_once : (p : ProofState) (line : List ℕ) (a b : Result ProofState ProofFault) → ProofLineSays p line a → ProofLineSays p line b → a ≡ b
-line_once p line a b (text.no_text n) (text.no_text m) = refl
-line_once p line a b (text.no_text n) (text.text u t) = absurd (n u)
-line_once p line a b (text.text u t) (text.no_text m) = absurd (m u)
-line_once p line a b (text.text u x) (text.text v y) = stage_once p p.stage line a b x y
+line_once p line a b (text.no_utf8 n) (text.no_utf8 m) = refl
+line_once p line a b (text.no_utf8 n) (text.in_utf8 u t) = absurd (n u)
+line_once p line a b (text.in_utf8 u t) (text.no_utf8 m) = absurd (m u)
+line_once p line a b (text.in_utf8 u x) (text.in_utf8 v y) = stage_once p p.stage line a b x y
 
 pub lines_once : (p : ProofState) (number : ℕ) (content : List (List ℕ)) (a b : Result ProofState ProofRefusal) → ProofLinesSay p number content a → ProofLinesSay p number content b → a ≡ b
-lines_once p number content a b text.none text.none = refl
-lines_once p number content a b (text.faulty {line = l} {fault = f} x) (text.faulty {fault = g} y) =
+lines_once p number content a b text.no_line text.no_line = refl
+lines_once p number content a b (text.faulty_line {line = l} {fault = f} x) (text.faulty_line {fault = g} y) =
     let h = line_once p l (Err f) (Err g) x y in let k : f ≡ g = cc in ap (λ q. Err (record { line = number; fault = q })) k
-lines_once p number content a b (text.faulty {line = l} {fault = f} x) (text.good {next = n} y more) = absurd (conflict n f (line_once p l (Ok n) (Err f) y x))
-lines_once p number content a b (text.good {next = n} {line = l} x more) (text.faulty {fault = f} y) = absurd (conflict n f (line_once p l (Ok n) (Err f) x y))
-lines_once p number content a b (text.good {next = m} {line = l} {more = ls} x more) (text.good {next = n} y others) =
+lines_once p number content a b (text.faulty_line {line = l} {fault = f} x) (text.good_line {next = n} y more) = absurd (conflict n f (line_once p l (Ok n) (Err f) y x))
+lines_once p number content a b (text.good_line {next = n} {line = l} x more) (text.faulty_line {fault = f} y) = absurd (conflict n f (line_once p l (Ok n) (Err f) x y))
+lines_once p number content a b (text.good_line {next = m} {line = l} {more = ls} x more) (text.good_line {next = n} y others) =
     let h = line_once p l (Ok m) (Ok n) x y in
     let k : m ≡ n = cc in
     lines_once m (number + 1) ls a b more (subst (λ q. ProofLinesSay q (number + 1) ls b) (sym k) others)

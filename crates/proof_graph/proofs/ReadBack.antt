@@ -42,14 +42,14 @@ comes_none : (p : ProofState) → Comes p [] p
 comes_none p number more answer later = later number
 
 comes_line : (p q r : ProofState) (line : List ℕ) (content : List (List ℕ)) → IsText line → StageSays p p.stage line (Ok q) → Comes q content r → Comes p (line ∷ content) r
-comes_line p q r line content plain says on number more answer later = text.good (text.text plain.utf8 says) (on (number + 1) more answer later)
+comes_line p q r line content plain says on number more answer later = text.good_line (text.in_utf8 plain.utf8 says) (on (number + 1) more answer later)
 
 comes_append : (p q r : ProofState) (xs ys : List (List ℕ)) → Comes p xs q → Comes q ys r → Comes p (xs ++ ys) r
 comes_append p q r xs ys on after number more answer later =
     subst (λ (l : List (List ℕ)). ProofLinesSay p number l answer) (sym (append_assoc xs ys more)) (on number (ys ++ more) answer (λ n. after n more answer later))
 
 comes_all : (p q : ProofState) (content : List (List ℕ)) → Comes p content q → ProofLinesSay p 1 content (Ok q)
-comes_all p q content on = subst (λ (l : List (List ℕ)). ProofLinesSay p 1 l (Ok q)) (append-nil content) (on 1 [] (Ok q) (λ n. text.none))
+comes_all p q content on = subst (λ (l : List (List ℕ)). ProofLinesSay p 1 l (Ok q)) (append-nil content) (on 1 [] (Ok q) (λ n. text.no_line))
 
 -- ---- the lines of terms
 
@@ -65,7 +65,7 @@ term_says term can =
     let whole = spelled_whole can.piece term can.spells in
     let line = term_text term in
     let first = begins term in
-    text.alone {next = 0} {end = length line}
+    text.only_term {next = 0} {end = length line}
     (record { ordered = omega arith; in_range = omega arith; pass = λ k from below. absurd (omega arith); stops = λ some. first.1 })
     first.0
     (record { piece = line; rest = []; spells = whole.spells; stops = whole.stops; here = sym (append-nil line); ends = omega arith })

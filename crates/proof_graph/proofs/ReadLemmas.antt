@@ -22,7 +22,7 @@ use Rattle.proof_graph.specs.declared.fault.ProofFault.TheVariants.{FileTooLong}
 use Rattle.proof_graph.specs.declared.version.Version.TheVariants.{One}
 use Rattle.proof_graph.specs.declared.stage.Stage.TheVariants as stage
 use Rattle.proof_graph.specs.declared.progress.Progress.{Progress}
-use Rattle.proof_graph.specs.Progress.{AreBelow, stage_with, state_of, IsBelow}
+use Rattle.proof_graph.specs.Progress.{AreBelow, stage_with, progress_with, IsBelow}
 use Rattle.proof_graph.specs.ReadLines.{LineTold, HasReadLines, LinesTold, HasReadAll, AllLinesTold, next_number}
 
 -- whatever lines follow those that end in the rest of a text, it and they say what they say after the lines that were read
@@ -36,12 +36,12 @@ goes_begin text more answer says = says
 -- one line more
 module _ (bytes rest line after : List ℕ) (returned : Bool) (p : ProofState) (number : ℕ) (split : IsSplit rest line after returned) (on : GoesOn bytes p number rest) where
   pub goes_good : (q : ProofState) → ProofLineSays p line (Ok q) → GoesOn bytes q (number + 1) after
-  goes_good q says more answer later = on more answer (subst (λ (l : List (List ℕ)). ProofLinesSay p number (l ++ more) answer) (sym split.ended) (text.good says later))
+  goes_good q says more answer later = on more answer (subst (λ (l : List (List ℕ)). ProofLinesSay p number (l ++ more) answer) (sym split.ended) (text.good_line says later))
 
   pub goes_bad : (refusal : ProofRefusal) → refusal.line ≡ number → ProofLineSays p line (Err refusal.fault) → (more : List (List ℕ)) → ProofLinesSay proof_start 1 ((cut_of bytes).ended ++ more) (Err refusal)
   goes_bad refusal is says more =
       on more (Err refusal) (subst (λ (l : List (List ℕ)). ProofLinesSay p number (l ++ more) (Err refusal)) (sym split.ended)
-      (subst (λ n. ProofLinesSay p number (line ∷ ((cut_of after).ended ++ more)) (Err (record { line = n; fault = refusal.fault }))) (sym is) (text.faulty says)))
+      (subst (λ n. ProofLinesSay p number (line ∷ ((cut_of after).ended ++ more)) (Err (record { line = n; fault = refusal.fault }))) (sym is) (text.faulty_line says)))
 
 -- no line more
 pub goes_end : (bytes rest : List ℕ) (p : ProofState) (number : ℕ) → HasNoEnd rest → GoesOn bytes p number rest →
@@ -67,7 +67,7 @@ returned_end bytes (b ∷ rest) returned empty none is all some = ap (λ e. if r
 
 -- before the first line
 pub begin_is : (names : List Term) (listed : Vec ℕ Global) (steps : Vec StepNumbers Global) → listed.items ≡ [] → steps.items ≡ [] →
-    state_of names (record { known = record { version = One; listed = listed; steps = steps }; stage = stage.Header }) ≡ proof_start
+    progress_with names (record { known = record { version = One; listed = listed; steps = steps }; stage = stage.Header }) ≡ proof_start
 begin_is names listed steps a b = ap₂ (λ l s. record { version = One; terms = map (term_at names) l; steps = map (step_with names) s; stage = text.AtHeader }) a b
 
 pub begin_below : (names : List Term) (listed : Vec ℕ Global) (steps : Vec StepNumbers Global) → listed.items ≡ [] → steps.items ≡ [] →
@@ -103,7 +103,7 @@ module _ (names : List Term) (bytes : List ℕ) (progress : Progress) (number : 
       let is = read.number_is in
       let all = ap length (ap (λ l. (cut_of bytes).ended ++ l) empty ∙ append-nil (cut_of bytes).ended) in
       record {
-        says = subst (λ l. ProofLinesSay proof_start 1 ((cut_of bytes).ended ++ l) (Ok (state_of names progress))) (sym empty) (read.on [] (Ok (state_of names progress)) text.none);
+        says = subst (λ l. ProofLinesSay proof_start 1 ((cut_of bytes).ended ++ l) (Ok (progress_with names progress))) (sym empty) (read.on [] (Ok (progress_with names progress)) text.no_line);
         last_is = omega arith;
         below = read.below;
       }
@@ -111,7 +111,7 @@ module _ (names : List Term) (bytes : List ℕ) (progress : Progress) (number : 
   last_there : (b : ℕ) (more : List ℕ) → rest ≡ b ∷ more → last_of (cut_of bytes).rest ≡ rest ∷ []
   last_there b more is = ap last_of (sym read.rest_is ∙ is) ∙ ap (λ l. l ∷ []) (sym is)
 
-  pub last_good : (after : List Term) (next : Progress) → 0 < length rest → ProofLineSays (state_of names progress) rest (Ok (state_of after next)) → IsBelow (length after) next → HasReadAll after bytes next number
+  pub last_good : (after : List Term) (next : Progress) → 0 < length rest → ProofLineSays (progress_with names progress) rest (Ok (progress_with after next)) → IsBelow (length after) next → HasReadAll after bytes next number
   last_good after next some says below = by rest refl
     where
       by : (r : List ℕ) → rest ≡ r → HasReadAll after bytes next number
@@ -122,21 +122,21 @@ module _ (names : List Term) (bytes : List ℕ) (progress : Progress) (number : 
           let count = ap length (ap (λ l. (cut_of bytes).ended ++ l) one) in
           let sum = length-append (cut_of bytes).ended (rest ∷ []) in
           record {
-            says = subst (λ l. ProofLinesSay proof_start 1 ((cut_of bytes).ended ++ l) (Ok (state_of after next))) (sym one) (read.on (rest ∷ []) (Ok (state_of after next)) (text.good says text.none));
+            says = subst (λ l. ProofLinesSay proof_start 1 ((cut_of bytes).ended ++ l) (Ok (progress_with after next))) (sym one) (read.on (rest ∷ []) (Ok (progress_with after next)) (text.good_line says text.no_line));
             last_is = omega arith;
             below = below;
           }
 
-  pub last_bad : (refusal : ProofRefusal) → 0 < length rest → refusal.line ≡ number → ProofLineSays (state_of names progress) rest (Err refusal.fault) → ProofLinesSay proof_start 1 (lines bytes) (Err refusal)
+  pub last_bad : (refusal : ProofRefusal) → 0 < length rest → refusal.line ≡ number → ProofLineSays (progress_with names progress) rest (Err refusal.fault) → ProofLinesSay proof_start 1 (lines bytes) (Err refusal)
   last_bad refusal some at says = by rest refl
     where
       by : (r : List ℕ) → rest ≡ r → ProofLinesSay proof_start 1 (lines bytes) (Err refusal)
       by [] none = absurd (let n = ap length none in omega arith)
       by (b ∷ more) is =
           subst (λ l. ProofLinesSay proof_start 1 ((cut_of bytes).ended ++ l) (Err refusal)) (sym (last_there b more is))
-          (read.on (rest ∷ []) (Err refusal) (subst (λ n. ProofLinesSay (state_of names progress) number (rest ∷ []) (Err (record { line = n; fault = refusal.fault }))) (sym at) (text.faulty says)))
+          (read.on (rest ∷ []) (Err refusal) (subst (λ n. ProofLinesSay (progress_with names progress) number (rest ∷ []) (Err (record { line = n; fault = refusal.fault }))) (sym at) (text.faulty_line says)))
 
-  pub last_stops : (after : List Term) (stop : Stop ProofRefusal) → 0 < length rest → LineTold after (state_of names progress) rest number (Err stop) → AllLinesTold after bytes (Err stop)
+  pub last_stops : (after : List Term) (stop : Stop ProofRefusal) → 0 < length rest → LineTold after (progress_with names progress) rest number (Err stop) → AllLinesTold after bytes (Err stop)
   last_stops after NoMemory some told = tt
   last_stops after (Fault refusal) some told = last_bad refusal some told.0 told.1
 
@@ -145,8 +145,8 @@ pub long_says : (names : List Term) (limit : ℕ) (bytes : List ℕ) (progress :
     ProofSays limit bytes (Err (record { line = next_number number returned (slice_index bytes limit); fault = FileTooLong }))
 long_says names limit bytes progress number rest returned read long =
     let front = take limit bytes in
-    let state = state_of names progress in
-    let says = subst (λ l. ProofLinesSay proof_start 1 l (Ok state)) (append-nil (cut_of front).ended) (read.on [] (Ok state) text.none) in
+    let state = progress_with names progress in
+    let says = subst (λ l. ProofLinesSay proof_start 1 l (Ok state)) (append-nil (cut_of front).ended) (read.on [] (Ok state) text.no_line) in
     let same : judged limit bytes ≡ (cut_of front).ended = cond-false (nat_le (length bytes) limit) (lines bytes) (cut_of front).ended (lt-leb (length bytes) limit long) in
     let b = slice_index bytes limit in
     let line : next_number number returned b ≡ line_of_next front b =
@@ -173,10 +173,10 @@ module _ (limit : ℕ) (bytes : List ℕ) (short : length bytes ≤ limit) where
   pub short_front : (front : List ℕ) → front ≡ take limit bytes → front ≡ bytes
   short_front front is = is ∙ whole
 
-  pub short_good : (names : List Term) (progress : Progress) (last : ℕ) → HasReadAll names bytes progress last → (answer : Result (List StepShape) ProofRefusal) → answer ≡ proof_ended (state_of names progress) (stage_with names progress.stage) last
+  pub short_good : (names : List Term) (progress : Progress) (last : ℕ) → HasReadAll names bytes progress last → (answer : Result (List StepShape) ProofRefusal) → answer ≡ proof_ended (progress_with names progress) (stage_with names progress.stage) last
       → ProofSays limit bytes answer
   short_good names progress last read answer is =
-      let state = state_of names progress in (
+      let state = progress_with names progress in (
         Ok state,
         subst (λ l. ProofLinesSay proof_start 1 l (Ok state)) (sym all_judged) read.says,
         is ∙ ap (proof_ended state state.stage) read.last_is

@@ -23,7 +23,7 @@ use Rattle.proof_graph.specs.Steps.{SupportShape, StepShape, step_terms, steps_t
 use Rattle.proof_graph.specs.CanonicalProof.{HasSupportForm, HasStepForm, CanBeRead}
 use Rattle.proof_graph.specs.Words.{word_then, words_from, words_of, two_of, value_of, decimal_number}
 use Rattle.proof_graph.specs.ProofText as text
-use Rattle.proof_graph.specs.ProofText.{StageShape, AtHeader, AtCount, AtTerm, AtStep, AtLeft, AtRight, AtSupport, AtEnd, ProofState, proof_start, at_next, header_of, after_header, count_of, after_count, stage_of_terms, end_of, step_or_end_of, after_step_or_end, in_range, numbered_one, one_before, numbered_all, numbered_side, number_before, step_numbers, support_of, support_or_done_of, with_support, after_support_or_done, after_end, TermsSay, OneTermSays, some_terms, SideSays, after_term, after_left, after_right, StageSays, ProofLineSays, ProofLinesSay, proof_ended, after_proof_lines, proof_or_refusal, ProofSays}
+use Rattle.proof_graph.specs.ProofText.{StageShape, AtHeader, AtCount, AtTerm, AtStep, AtLeft, AtRight, AtSupport, AtEnd, ProofState, proof_start, at_next, header_of, after_header, count_of, after_count, stage_of_terms, end_of, step_or_end_of, after_step_or_end, or_out_of_range, numbered_one, one_before, numbered_all, numbered_side, number_before, step_numbers, support_of, support_or_done_of, with_support, after_support_or_done, after_end, TermsSay, OneTermSays, some_terms, SideSays, after_term, after_left, after_right, StageSays, ProofLineSays, ProofLinesSay, proof_ended, after_proof_lines, proof_or_refusal, ProofSays}
 use Rattle.proof_graph.specs.declared.step_or_end.StepOrEnd.{StepOrEnd}
 use Rattle.proof_graph.specs.declared.step_or_end.StepOrEnd.TheVariants.{Begins, Ends}
 use Rattle.proof_graph.specs.declared.version.Version.{Version}
@@ -62,7 +62,7 @@ there P xs i all = elim ((slice_get_cases xs i).1) [
   | inr past ↦ subst (λ o. IfSome o P) (sym past.1) tt
 ]
 
-ranged_good : {X : Type 0} (P : X → Type 0) (o : Option X) → IfSome o P → IfOk (in_range o) P
+ranged_good : {X : Type 0} (P : X → Type 0) (o : Option X) → IfSome o P → IfOk (or_out_of_range o) P
 ranged_good P None h = tt
 ranged_good P (Some x) h = h
 
@@ -108,10 +108,10 @@ spelled_long piece term (literal {string = string} {suffix = suffix} s after who
 
 terms_good : (line : List ℕ) (at : ℕ) (answer : Result (List Term) ProofFault) → TermsSay line at answer → IfOk answer (λ terms. All CanBeSpelled terms × (length terms + at ≤ length line))
 terms_good line at answer (text.no_more run) = let ordered = run.ordered in (All-nil CanBeSpelled, omega arith)
-terms_good line at answer (text.no_term run inside none) = tt
+terms_good line at answer (text.not_a_term run inside none) = tt
 terms_good line at answer (text.bad_term run begins fails) = tt
 terms_good line at answer (text.bad_later run begins reads later) = tt
-terms_good line at answer (text.one_more {end = end} {term = term} {terms = terms} run begins reads later) =
+terms_good line at answer (text.term_then {end = end} {term = term} {terms = terms} run begins reads later) =
     let more = terms_good line end (Ok terms) later in
     let long = spelled_long reads.piece term reads.spells in
     let ends = reads.ends in
@@ -120,10 +120,10 @@ terms_good line at answer (text.one_more {end = end} {term = term} {terms = term
     (All-cons CanBeSpelled term terms (record { piece = reads.piece; spells = reads.spells }) more.0, omega arith)
 
 one_term_good : (line : List ℕ) (answer : Result Term ProofFault) → OneTermSays line answer → IfOk answer CanBeSpelled
-one_term_good line answer (text.no_term run none) = tt
+one_term_good line answer (text.not_a_term run none) = tt
 one_term_good line answer (text.bad_term run begins fails) = tt
 one_term_good line answer (text.followed run begins reads gap more) = tt
-one_term_good line answer (text.alone run begins reads gap) = record { piece = reads.piece; spells = reads.spells }
+one_term_good line answer (text.only_term run begins reads gap) = record { piece = reads.piece; spells = reads.spells }
 
 side_good : (word line : List ℕ) (terms : List Term) (version : Version) (answer : Result (List Term) ProofFault) → All CanBeSpelled terms → SideSays word line terms version answer → IfOk answer (IsSide (length line))
 side_good word line terms version answer all (text.other_word first other) = tt
@@ -319,8 +319,8 @@ module _ (bytes : ℕ) (p : ProofState) (spelled : All CanBeSpelled p.terms) (fo
   stage_good AtEnd answer at form few says = subst Goal (sym says) (end_line_good at (words_of line) form few)
 
 line_good : (bytes : ℕ) (p : ProofState) (line : List ℕ) (answer : Result ProofState ProofFault) → IsReadable bytes p → ProofLineSays p line answer → IfOk answer (IsReadable (bytes + length line))
-line_good bytes p line answer h (text.no_text other) = tt
-line_good bytes p line answer h (text.text utf8 says) = stage_good bytes p h.terms_form h.steps_form line p.stage answer refl h.stage_form h.few says
+line_good bytes p line answer h (text.no_utf8 other) = tt
+line_good bytes p line answer h (text.in_utf8 utf8 says) = stage_good bytes p h.terms_form h.steps_form line p.stage answer refl h.stage_form h.few says
 
 -- how many bytes lines have
 abbrev bytes_in : List (List ℕ) → ℕ
@@ -329,9 +329,9 @@ bytes_in (line ∷ content) = length line + bytes_in content
 
 lines_good : (bytes all : ℕ) (p : ProofState) (number : ℕ) (content : List (List ℕ)) (answer : Result ProofState ProofRefusal) → bytes + bytes_in content ≡ all → IsReadable bytes p → ProofLinesSay p number content answer →
     IfOk answer (IsReadable all)
-lines_good bytes all p number content answer sum h text.none = let e : bytes ≡ all = omega arith in subst (λ n. IsReadable n p) e h
-lines_good bytes all p number content answer sum h (text.faulty bad) = tt
-lines_good bytes all p number content answer sum h (text.good {next = next} {line = line} {more = more} good says) =
+lines_good bytes all p number content answer sum h text.no_line = let e : bytes ≡ all = omega arith in subst (λ n. IsReadable n p) e h
+lines_good bytes all p number content answer sum h (text.faulty_line bad) = tt
+lines_good bytes all p number content answer sum h (text.good_line {next = next} {line = line} {more = more} good says) =
     lines_good (bytes + length line) all next (number + 1) more answer (omega arith) (line_good bytes p line (Ok next) h good) says
 
 -- ---- the bytes of a text

@@ -19,7 +19,7 @@ use Rattle.key_file.specs.Compile.{HasMoreNames}
 use Rattle.proof_graph.specs.Steps.{term_at}
 use Rattle.proof_graph.specs.Words.{words_of, decimal_number, FirstWord}
 use Rattle.proof_graph.specs.ProofText as text
-use Rattle.proof_graph.specs.ProofText.{in_range, numbered_one, one_before, numbered_all, numbered_side, TermsSay, OneTermSays, some_terms, SideSays}
+use Rattle.proof_graph.specs.ProofText.{or_out_of_range, numbered_one, one_before, numbered_all, numbered_side, TermsSay, OneTermSays, some_terms, SideSays}
 use Rattle.proof_graph.specs.declared.fault.ProofFault.{ProofFault}
 use Rattle.proof_graph.specs.declared.fault.ProofFault.TheVariants.{Lex, BadLine}
 use Rattle.proof_graph.specs.declared.version.Version.TheVariants.{One, Two}
@@ -55,9 +55,9 @@ changed f (Ok x) = Ok (f x)
 
 numbered_one-map : {X Y : Type 0} (f : X → Y) (xs : List X) (number : Option ℕ) → numbered_one (map f xs) number ≡ changed f (numbered_one xs number)
 numbered_one-map f xs None = refl
-numbered_one-map {X} {Y} f xs (Some n) = ap in_range (slice_get-map f xs (n - 1)) ∙ by (slice_get xs (n - 1))
+numbered_one-map {X} {Y} f xs (Some n) = ap or_out_of_range (slice_get-map f xs (n - 1)) ∙ by (slice_get xs (n - 1))
   where
-    by : (o : Option X) → in_range (option_map f o) ≡ changed f (in_range o)
+    by : (o : Option X) → or_out_of_range (option_map f o) ≡ changed f (or_out_of_range o)
     by None = refl
     by (Some x) = refl
 
@@ -93,7 +93,7 @@ numbered_one-holds P xs None x h e = absurd (conflict x BadLine (sym e))
     conflict a f h = cc
 numbered_one-holds {X} P xs (Some n) x h e = by (slice_get xs (n - 1)) refl e
   where
-    by : (o : Option X) → slice_get xs (n - 1) ≡ o → in_range o ≡ Ok x → P x
+    by : (o : Option X) → slice_get xs (n - 1) ≡ o → or_out_of_range o ≡ Ok x → P x
     by None at same = absurd cc
     by (Some y) at same = let k : y ≡ x = cc in subst P k (All-at P xs (n - 1) y h at)
 
@@ -173,9 +173,9 @@ run_more line at next end run more = run_from is_blank line at next end run.orde
 
 terms_after : (line : List ℕ) (at next : ℕ) (rest : Result (List Term) ProofFault) → IsRunAt is_blank line at next → TermsSay line next rest → TermsSay line at rest
 terms_after line at next rest run (text.no_more r) = text.no_more (run_more line at next (length line) run r)
-terms_after line at next rest run (text.no_term r inside none) = text.no_term (run_more line at next _ run r) inside none
+terms_after line at next rest run (text.not_a_term r inside none) = text.not_a_term (run_more line at next _ run r) inside none
 terms_after line at next rest run (text.bad_term r some says) = text.bad_term (run_more line at next _ run r) some says
-terms_after line at next rest run (text.one_more r some says more) = text.one_more (run_more line at next _ run r) some says more
+terms_after line at next rest run (text.term_then r some says more) = text.term_then (run_more line at next _ run r) some says more
 terms_after line at next rest run (text.bad_later r some says more) = text.bad_later (run_more line at next _ run r) some says more
 
 -- before the first term
@@ -188,13 +188,13 @@ module _ (line : List ℕ) (begin next : ℕ) (terms : List Term) (run : IsRunAt
   terms_end whole = subst (TermsSay line begin) (ap Ok (append-nil terms)) (on (Ok []) (text.no_more (subst (IsRunAt is_blank line next) whole run)))
 
   pub no_term_there : next ≢ length line → begins_term (slice_index line next) ≡ false → TermsSay line begin (Err BadLine)
-  no_term_there inside none = on (Err BadLine) (text.no_term run inside none)
+  no_term_there inside none = on (Err BadLine) (text.not_a_term run inside none)
 
   pub bad_term_there : (fault : LexFault) → begins_term (slice_index line next) ≡ true → Says line next (Err fault) → TermsSay line begin (Err (Lex fault))
   bad_term_there fault some says = on (Err (Lex fault)) (text.bad_term run some says)
 
   one_term_more : (end : ℕ) (t : Term) → begins_term (slice_index line next) ≡ true → Says line next (Ok (t, end)) → ReadsOn line begin end (terms ++ t ∷ [])
-  one_term_more end t some says (Ok rest) more = subst (TermsSay line begin) (ap Ok (sym (append_assoc terms (t ∷ []) rest))) (on (Ok (t ∷ rest)) (text.one_more run some says more))
+  one_term_more end t some says (Ok rest) more = subst (TermsSay line begin) (ap Ok (sym (append_assoc terms (t ∷ []) rest))) (on (Ok (t ∷ rest)) (text.term_then run some says more))
   one_term_more end t some says (Err fault) more = on (Err fault) (text.bad_later run some says more)
 
   pub term_more : (end after : ℕ) (t : Term) → begins_term (slice_index line next) ≡ true → Says line next (Ok (t, end)) → IsRunAt is_blank line end after → IsRunAt is_blank line after after × ReadsOn line begin after (terms ++ t ∷ [])

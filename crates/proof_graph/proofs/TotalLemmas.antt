@@ -68,12 +68,12 @@ terms_from line at u later next run = elim (cases_eq next (length line)) [
   | inl end ↦ (Ok [], text.no_more (subst (IsRunAt is_blank line at) end run))
   | inr inside ↦ elim (cases_Bool (begins_term (slice_index line next))) [
     | inl is ↦ let s = said line at next u run is in term is s.0 s.1
-    | inr isnt ↦ (Err BadLine, text.no_term run inside isnt)
+    | inr isnt ↦ (Err BadLine, text.not_a_term run inside isnt)
   ]
 ]
   where
     goes : (end : ℕ) (t : Term) → begins_term (slice_index line next) ≡ true → Says line next (Ok (t, end)) → (rest : Result (List Term) ProofFault) → TermsSay line end rest → TermsFound line at
-    goes end t begins says (Ok ts) more = (Ok (t ∷ ts), text.one_more run begins says more)
+    goes end t begins says (Ok ts) more = (Ok (t ∷ ts), text.term_then run begins says more)
     goes end t begins says (Err fault) more = (Err fault, text.bad_later run begins says more)
 
     term : begins_term (slice_index line next) ≡ true → (read : Result (Term × ℕ) LexFault) → Says line next read → TermsFound line at
@@ -94,7 +94,7 @@ one_term_total line u = let gap = run_total is_blank line 0 (omega arith) in fro
   where
     after : (next end : ℕ) (t : Term) → IsRunAt is_blank line 0 next → begins_term (slice_index line next) ≡ true → Says line next (Ok (t, end)) → RunFound is_blank line end → (answer : Result Term ProofFault) × OneTermSays line answer
     after next end t run begins says gap = elim (cases_eq gap.0 (length line)) [
-      | inl whole ↦ (Ok t, text.alone run begins says (subst (IsRunAt is_blank line end) whole gap.1))
+      | inl whole ↦ (Ok t, text.only_term run begins says (subst (IsRunAt is_blank line end) whole gap.1))
       | inr more ↦ (Err BadLine, text.followed run begins says gap.1 more)
     ]
 
@@ -105,7 +105,7 @@ one_term_total line u = let gap = run_total is_blank line 0 (omega arith) in fro
     from : (next : ℕ) → IsRunAt is_blank line 0 next → (answer : Result Term ProofFault) × OneTermSays line answer
     from next run = elim (cases_Bool (begins_term (slice_index line next))) [
       | inl is ↦ let s = said line 0 next u run is in term next run is s.0 s.1
-      | inr isnt ↦ (Err BadLine, text.no_term run isnt)
+      | inr isnt ↦ (Err BadLine, text.not_a_term run isnt)
     ]
 
 side_total : (word line : List ℕ) (terms : List Term) (v : Version) → IsUtf8 line → (answer : Result (List Term) ProofFault) × SideSays word line terms v answer
@@ -131,8 +131,8 @@ stage_total p AtEnd line u = (after_end p (words_of line), refl)
 
 line_total : (p : ProofState) (line : List ℕ) → (answer : Result ProofState ProofFault) × ProofLineSays p line answer
 line_total p line = elim (cases_Bool (is_utf8 line)) [
-  | inl is ↦ let u = IsUtf8-from_is_utf8 line is in let s = stage_total p p.stage line u in (s.0, text.text u s.1)
-  | inr isnt ↦ (Err (Lex NotUtf8), text.no_text (λ u. true≢false (sym (is_utf8-from_IsUtf8 line u) ∙ isnt)))
+  | inl is ↦ let u = IsUtf8-from_is_utf8 line is in let s = stage_total p p.stage line u in (s.0, text.in_utf8 u s.1)
+  | inr isnt ↦ (Err (Lex NotUtf8), text.no_utf8 (λ u. true≢false (sym (is_utf8-from_IsUtf8 line u) ∙ isnt)))
 ]
 
 abbrev LinesFound : ProofState → ℕ → List (List ℕ) → Type 0
@@ -140,11 +140,11 @@ LinesFound p number content = (answer : Result ProofState ProofRefusal) × Proof
 
 lines_from : (p : ProofState) (number : ℕ) (line : List ℕ) (more : List (List ℕ)) → ((next : ProofState) → LinesFound next (number + 1) more) → (answer : Result ProofState ProofFault) → ProofLineSays p line answer
     → LinesFound p number (line ∷ more)
-lines_from p number line more later (Err fault) says = (_, text.faulty says)
-lines_from p number line more later (Ok next) says = let rest = later next in (rest.0, text.good says rest.1)
+lines_from p number line more later (Err fault) says = (_, text.faulty_line says)
+lines_from p number line more later (Ok next) says = let rest = later next in (rest.0, text.good_line says rest.1)
 
 lines_total : (content : List (List ℕ)) (p : ProofState) (number : ℕ) → LinesFound p number content
-lines_total [] p number = (Ok p, text.none)
+lines_total [] p number = (Ok p, text.no_line)
 lines_total (line ∷ more) p number = let s = line_total p line in lines_from p number line more (λ next. lines_total more next (number + 1)) s.0 s.1
 
 -- a proof file says at least one thing

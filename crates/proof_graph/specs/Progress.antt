@@ -20,8 +20,8 @@ abbrev pub ProofLineStop : Type 0
 ProofLineStop = Stop ProofFault
 
 -- this very answer
-abbrev pub IsAnswer : {A : Type 0} → Result A ProofFault → Result A ProofFault → Type 0
-IsAnswer computed answer = answer ≡ computed
+abbrev pub IsExactly : {A : Type 0} → Result A ProofFault → Result A ProofFault → Type 0
+IsExactly computed answer = answer ≡ computed
 
 -- a list was answered as it was computed
 abbrev pub ItemsAre : {X : Type 0} → Result (List X) ProofFault → Result (Vec X Global) ProofLineStop → Type 0
@@ -83,8 +83,8 @@ abbrev pub state_with : List Term → Known → StageShape → ProofState
 state_with names known stage = record { version = known.version; terms = map (term_at names) known.listed.items; steps = map (step_with names) known.steps.items; stage = stage }
 
 -- a file as far as it was read, with the terms of these names
-abbrev pub state_of : List Term → Progress → ProofState
-state_of names progress = state_with names progress.known (stage_with names progress.stage)
+abbrev pub progress_with : List Term → Progress → ProofState
+progress_with names progress = state_with names progress.known (stage_with names progress.stage)
 
 -- the numbers in what has come are those of names, of which there are so many
 pub record IsKnownBelow (count : ℕ) (known : Known) : Type 0 where
@@ -109,6 +109,6 @@ pub record IsBelow (count : ℕ) (progress : Progress) : Type 0 where
 
 -- what a line says was done, or its fault was told
 abbrev pub IsDone : List Term → (Result ProofState ProofFault → Type 0) → Result Progress ProofLineStop → Type 0
-IsDone names Tells (Ok next) = Tells (Ok (state_of names next)) × IsBelow (length names) next
+IsDone names Tells (Ok next) = Tells (Ok (progress_with names next)) × IsBelow (length names) next
 IsDone names Tells (Err NoMemory) = Unit {0}
 IsDone names Tells (Err (Fault fault)) = Tells (Err fault)

@@ -102,14 +102,14 @@ after_step_or_end p (Ok (Begins key)) = at_next p (AtLeft key)
 after_step_or_end p (Ok (Ends n)) = if n == length p.steps then at_next p AtEnd else Err CountDiffers
 
 -- what has a number that is in range
-abbrev pub in_range : {X : Type 0} → Option X → Result X ProofFault
-in_range None = Err TermNumberOutOfRange
-in_range (Some x) = Ok x
+abbrev pub or_out_of_range : {X : Type 0} → Option X → Result X ProofFault
+or_out_of_range None = Err TermNumberOutOfRange
+or_out_of_range (Some x) = Ok x
 
 -- what has this number in a list; numbers begin at 1
 abbrev pub numbered_one : {X : Type 0} → List X → Option ℕ → Result X ProofFault
 numbered_one terms None = Err BadLine
-numbered_one terms (Some n) = in_range (slice_get terms (n - 1))
+numbered_one terms (Some n) = or_out_of_range (slice_get terms (n - 1))
 
 -- one before others, where there is no fault
 abbrev pub one_before : {X : Type 0} → Result X ProofFault → Result (List X) ProofFault → Result (List X) ProofFault
@@ -171,18 +171,18 @@ after_end p (word ∷ words) = Err TextAfterTheEnd
 -- the terms from a place of a line on: up to its end, or up to the first fault
 pub data TermsSay (line : List ℕ) : ℕ → Result (List Term) ProofFault → Type 0 where
   no_more : {at : ℕ} → IsRunAt is_blank line at (length line) → TermsSay line at (Ok [])
-  no_term : {at next : ℕ} → IsRunAt is_blank line at next → next ≢ length line → begins_term (slice_index line next) ≡ false → TermsSay line at (Err BadLine)
+  not_a_term : {at next : ℕ} → IsRunAt is_blank line at next → next ≢ length line → begins_term (slice_index line next) ≡ false → TermsSay line at (Err BadLine)
   bad_term : {at next : ℕ} {fault : LexFault} → IsRunAt is_blank line at next → begins_term (slice_index line next) ≡ true → Says line next (Err fault) → TermsSay line at (Err (Lex fault))
-  one_more : {at next end : ℕ} {term : Term} {terms : List Term} → IsRunAt is_blank line at next → begins_term (slice_index line next) ≡ true → Says line next (Ok (term, end))
+  term_then : {at next end : ℕ} {term : Term} {terms : List Term} → IsRunAt is_blank line at next → begins_term (slice_index line next) ≡ true → Says line next (Ok (term, end))
       → TermsSay line end (Ok terms) → TermsSay line at (Ok (term ∷ terms))
   bad_later : {at next end : ℕ} {term : Term} {fault : ProofFault} → IsRunAt is_blank line at next → begins_term (slice_index line next) ≡ true → Says line next (Ok (term, end))
       → TermsSay line end (Err fault) → TermsSay line at (Err fault)
 
 -- exactly one term
 pub data OneTermSays (line : List ℕ) : Result Term ProofFault → Type 0 where
-  no_term : {next : ℕ} → IsRunAt is_blank line 0 next → begins_term (slice_index line next) ≡ false → OneTermSays line (Err BadLine)
+  not_a_term : {next : ℕ} → IsRunAt is_blank line 0 next → begins_term (slice_index line next) ≡ false → OneTermSays line (Err BadLine)
   bad_term : {next : ℕ} {fault : LexFault} → IsRunAt is_blank line 0 next → begins_term (slice_index line next) ≡ true → Says line next (Err fault) → OneTermSays line (Err (Lex fault))
-  alone : {next end : ℕ} {term : Term} → IsRunAt is_blank line 0 next → begins_term (slice_index line next) ≡ true → Says line next (Ok (term, end))
+  only_term : {next end : ℕ} {term : Term} → IsRunAt is_blank line 0 next → begins_term (slice_index line next) ≡ true → Says line next (Ok (term, end))
       → IsRunAt is_blank line end (length line) → OneTermSays line (Ok term)
   followed : {next end after : ℕ} {term : Term} → IsRunAt is_blank line 0 next → begins_term (slice_index line next) ≡ true → Says line next (Ok (term, end))
       → IsRunAt is_blank line end after → after ≢ length line → OneTermSays line (Err BadLine)
@@ -228,15 +228,15 @@ StageSays p AtEnd line answer = answer ≡ after_end p (words_of line)
 
 -- that a line is not UTF-8 comes before all other faults
 pub data ProofLineSays (p : ProofState) (line : List ℕ) : Result ProofState ProofFault → Type 0 where
-  no_text : ¬ (IsUtf8 line) → ProofLineSays p line (Err (Lex NotUtf8))
-  text : {answer : Result ProofState ProofFault} → IsUtf8 line → StageSays p p.stage line answer → ProofLineSays p line answer
+  no_utf8 : ¬ (IsUtf8 line) → ProofLineSays p line (Err (Lex NotUtf8))
+  in_utf8 : {answer : Result ProofState ProofFault} → IsUtf8 line → StageSays p p.stage line answer → ProofLineSays p line answer
 
 -- the lines from this number on, one after another: the first faulty one is refused with its number
 pub data ProofLinesSay : ProofState → ℕ → List (List ℕ) → Result ProofState ProofRefusal → Type 0 where
-  none : {p : ProofState} {number : ℕ} → ProofLinesSay p number [] (Ok p)
-  faulty : {p : ProofState} {number : ℕ} {line : List ℕ} {more : List (List ℕ)} {fault : ProofFault} → ProofLineSays p line (Err fault)
+  no_line : {p : ProofState} {number : ℕ} → ProofLinesSay p number [] (Ok p)
+  faulty_line : {p : ProofState} {number : ℕ} {line : List ℕ} {more : List (List ℕ)} {fault : ProofFault} → ProofLineSays p line (Err fault)
       → ProofLinesSay p number (line ∷ more) (Err (record { line = number; fault = fault }))
-  good : {p next : ProofState} {number : ℕ} {line : List ℕ} {more : List (List ℕ)} {answer : Result ProofState ProofRefusal} → ProofLineSays p line (Ok next)
+  good_line : {p next : ProofState} {number : ℕ} {line : List ℕ} {more : List (List ℕ)} {answer : Result ProofState ProofRefusal} → ProofLineSays p line (Ok next)
       → ProofLinesSay next (number + 1) more answer → ProofLinesSay p number (line ∷ more) answer
 
 -- at the end of the file: the proof has ended, or its last line is refused; where there is none, the header is missing

@@ -8,17 +8,17 @@ use Rattle.proof_graph.specs.ProofText.{ProofState, proof_start, ProofLineSays, 
 use Rattle.proof_graph.specs.declared.fault.ProofRefusal.{ProofRefusal}
 use Rattle.proof_graph.specs.declared.progress.Progress.{Progress}
 use Rattle.proof_graph.specs.declared.read_lines.ReadLines.{ReadLines}
-use Rattle.proof_graph.specs.Progress.{state_of, IsBelow}
+use Rattle.proof_graph.specs.Progress.{progress_with, IsBelow}
 
 -- the line of this number was read, or refused
 abbrev pub LineTold : List Term → ProofState → List ℕ → ℕ → Result Progress (Stop ProofRefusal) → Type 0
-LineTold names p line number (Ok next) = ProofLineSays p line (Ok (state_of names next)) × IsBelow (length names) next
+LineTold names p line number (Ok next) = ProofLineSays p line (Ok (progress_with names next)) × IsBelow (length names) next
 LineTold names p line number (Err NoMemory) = Unit {0}
 LineTold names p line number (Err (Fault refusal)) = (refusal.line ≡ number) × ProofLineSays p line (Err refusal.fault)
 
 -- the lines that end in a text come to this: whatever lines follow, the text and they say what they say after it
 pub record HasReadLines (names : List Term) (text : List ℕ) (progress : Progress) (number : ℕ) (rest : List ℕ) (returned : Bool) : Type 0 where
-  pub on : (more : List (List ℕ)) (answer : Result ProofState ProofRefusal) → ProofLinesSay (state_of names progress) number more answer
+  pub on : (more : List (List ℕ)) (answer : Result ProofState ProofRefusal) → ProofLinesSay (progress_with names progress) number more answer
       → ProofLinesSay proof_start 1 ((cut_of text).ended ++ more) answer
   pub rest_is : rest ≡ (cut_of text).rest
   pub returned_is : returned ≡ (cut_of text).returned
@@ -33,7 +33,7 @@ LinesTold names text (Err (Fault refusal)) = (more : List (List ℕ)) → ProofL
 
 -- all lines of a text come to this, and the last one has this number
 pub record HasReadAll (names : List Term) (text : List ℕ) (progress : Progress) (last : ℕ) : Type 0 where
-  pub says : ProofLinesSay proof_start 1 (lines text) (Ok (state_of names progress))
+  pub says : ProofLinesSay proof_start 1 (lines text) (Ok (progress_with names progress))
   pub last_is : last ≡ length (lines text)
   pub below : IsBelow (length names) progress
 

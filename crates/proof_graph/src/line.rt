@@ -5,7 +5,7 @@ ghost use Rattle.gk_base.specs.declared.term.Term.{Term};
 ghost use Rattle.key_file.specs.Compile.{HasMoreNames};
 ghost use Rattle.proof_graph.specs.Steps.{term_at, step_with, IsNumberedBelow};
 ghost use Rattle.proof_graph.specs.ProofText.{SideSays, StageSays, ProofLineSays, AtHeader, AtCount, AtTerm, AtStep, AtLeft, AtRight, AtSupport, AtEnd, stage_of_terms};
-ghost use Rattle.proof_graph.specs.Progress.{stage_with, state_with, state_of, AreBelow, IsKnownBelow, IsStageBelow, IsBelow, IsDone, SideTold};
+ghost use Rattle.proof_graph.specs.Progress.{stage_with, state_with, progress_with, AreBelow, IsKnownBelow, IsStageBelow, IsBelow, IsDone, SideTold};
 
 use crate::ProofStep;
 use crate::fault::{LineStop, ProofFault};
@@ -236,7 +236,7 @@ fn at_stage(
     requires below { IsBelow (length names.old) progress }
     ensures grown { HasMoreNames names.old names.new }
     ensures done { IsDone names.new
-        (StageSays (state_of names.old progress) (stage_with names.old progress.stage) line.now) result }
+        (StageSays (progress_with names.old progress) (stage_with names.old progress.stage) line.now) result }
 {
     let Progress { known, stage } = progress;
     match stage {
@@ -260,7 +260,7 @@ pub(crate) fn after_line(
 ) -> Result<Progress, LineStop>
     requires { IsBelow (length names.old) progress }
     ensures grown { HasMoreNames names.old names.new }
-    ensures done { IsDone names.new (ProofLineSays (state_of names.old progress) line.now) result }
+    ensures done { IsDone names.new (ProofLineSays (progress_with names.old progress) line.now) result }
 {
     if !simdutf8::is_utf8(line) {
         return Err(LineStop::Fault(ProofFault::Lex(LexFault::NotUtf8)));

@@ -5,7 +5,7 @@ ghost use Rattle.gk_base.specs.Answers.{IsSo, Gives};
 ghost use Rattle.proof_graph.specs.Steps.{StepShape, step_terms, step_with, in_numbers, IsNumberedBelow};
 ghost use Rattle.proof_graph.specs.ProofText.{ProofSays, proof_ended};
 ghost use Rattle.proof_graph.specs.CanonicalProof.{CanBeRead};
-ghost use Rattle.proof_graph.specs.Progress.{state_of, IsBelow};
+ghost use Rattle.proof_graph.specs.Progress.{progress_with, IsBelow};
 ghost use Rattle.proof_graph.specs.ReadLines.{next_number};
 ghost use Rattle.proof_graph.specs.declared.fault.ProofRefusal.{ProofRefusal};
 ghost use Rattle.proof_graph.specs.TermNumbers.{NotesPlaces};
@@ -72,7 +72,7 @@ fn renumbered(alloc: Global, names: &Names, steps: Vec<ProofStep>) -> Result<Pro
 /// The proof of a file whose lines are all good, and of which the last has this number.
 fn proof_of(alloc: Global, names: &Names, progress: Progress, last: u64) -> Result<Proof, ProofStop>
     requires { IsBelow (length names.now) progress }
-    ensures { IsSo (λ answer. answer ≡ proof_ended (state_of names.now progress) (state_of names.now progress).stage last) result }
+    ensures { IsSo (λ answer. answer ≡ proof_ended (progress_with names.now progress) (progress_with names.now progress).stage last) result }
 {
     let Progress { known, stage } = progress;
     match stage {
@@ -139,7 +139,7 @@ pub fn read_proof(alloc: Global, bytes: &[u8], limit: u64) -> Result<Proof, Proo
     ensures says { IsSo (ProofSays limit bytes.now) result }
     // What the file says was answered, unless memory ran out.
     ensures only { (answer : Result (List StepShape) ProofRefusal) → ProofSays limit bytes.now answer → Gives result answer }
-    // What was read can be written and read again, where the limit is below that of `u32`.
+    // What was read can be written, and its text read again, where the limit is below 2 ^ 32.
     ensures readable { limit < 2 ^ 32 → IfOk result CanBeRead }
 {
     proof_answer(alloc, bytes, limit)

@@ -1,7 +1,7 @@
 //! Reads the lines of a proof file.
 
 ghost use Rattle.std.specs.Prelude.{length};
-ghost use Rattle.proof_graph.specs.Progress.{state_of, IsBelow};
+ghost use Rattle.proof_graph.specs.Progress.{progress_with, IsBelow};
 ghost use Rattle.proof_graph.specs.ReadLines.{HasReadLines, LineTold, LinesTold, AllLinesTold};
 
 use crate::fault::{LineStop, ProofRefusal, ProofStop};
@@ -34,7 +34,7 @@ fn judge(
     line: &[u8],
 ) -> Result<Progress, ProofStop>
     requires { IsBelow (length names.old) progress }
-    ensures { LineTold names.new (state_of names.old progress) line.now number result }
+    ensures { LineTold names.new (progress_with names.old progress) line.now number result }
 {
     match after_line(alloc, names, progress, line) {
         Ok(progress) => Ok(progress),

@@ -5,7 +5,7 @@ ghost use Rattle.std.specs.Option.{option_map};
 ghost use Rattle.gk_base.specs.Answers.{IsSo};
 ghost use Rattle.proof_graph.specs.Words.{words_of, two_of};
 ghost use Rattle.proof_graph.specs.ProofText.{header_of, version_of, count_of, step_or_end_of, step_numbers, support_of, support_or_done_of};
-ghost use Rattle.proof_graph.specs.Progress.{IsAnswer};
+ghost use Rattle.proof_graph.specs.Progress.{IsExactly};
 
 use crate::Support;
 use crate::decimals::decimal_number;
@@ -57,7 +57,7 @@ pub(crate) fn count(line: &[u8]) -> Result<u32, ProofFault>
 
 /// A step that begins, or the end.
 pub(crate) fn step_or_end(alloc: Global, line: &[u8]) -> Result<StepOrEnd, LineStop>
-    ensures { IsSo (IsAnswer (step_or_end_of (two_of (words_of line.now)))) result }
+    ensures { IsSo (IsExactly (step_or_end_of (two_of (words_of line.now)))) result }
 {
     let Some((word, other)) = two_words(line) else {
         return Err(LineStop::Fault(ProofFault::BadLine));
@@ -108,7 +108,7 @@ fn support(slot: Option<u32>, steps: Option<Vec<u32>>) -> Result<Option<Support>
 
 /// A support, or that the step is done.
 pub(crate) fn support_or_done(alloc: Global, line: &[u8]) -> Result<Option<Support>, LineStop>
-    ensures { IsSo (IsAnswer (support_or_done_of (words_of line.now))) result }
+    ensures { IsSo (IsExactly (support_or_done_of (words_of line.now))) result }
 {
     let Some((word, rest)) = next_word(line) else {
         return Err(LineStop::Fault(ProofFault::BadLine));

@@ -1,12 +1,12 @@
 use Rattle.std.proofs.Common.{sym, ◌∙◌, true≢false}
 use Rattle.proof_graph.specs.ProofText as text
-use Rattle.proof_graph.specs.Progress.{state_of}
+use Rattle.proof_graph.specs.Progress.{progress_with}
 use Rattle.proof_graph.proofs.LineLemmas.{text_done}
 use Rattle.proof_graph.proofs.line.after_line.Goals as goal
 
 pub returns-then-not-is_utf8-clause-done : goal.returns-then-not-is_utf8-clause-done
-returns-then-not-is_utf8-clause-done c = text.no_text (λ u. true≢false (sym (c.is_utf8.ensures.1 u) ∙ c.if-not-is_utf8.true))
+returns-then-not-is_utf8-clause-done c = text.no_utf8 (λ u. true≢false (sym (c.is_utf8.ensures.1 u) ∙ c.if-not-is_utf8.true))
 
 pub returns-clause-done : goal.returns-clause-done
 returns-clause-done c =
-    text_done c.at_stage.new.names (state_of c.args.names.now c.args.progress) c.args.line.now c.at_stage.result (c.is_utf8.ensures.0 c.if-not-is_utf8.false) c.at_stage.ensures.done
+    text_done c.at_stage.new.names (progress_with c.args.names.now c.args.progress) c.args.line.now c.at_stage.result (c.is_utf8.ensures.0 c.if-not-is_utf8.false) c.at_stage.ensures.done

@@ -2,7 +2,7 @@ use Rattle.std.proofs.Common.{Err, sym, subst}
 use Rattle.std.proofs.lemmas.Result.{err_from_is_err_and}
 use Rattle.proof_graph.specs.ProofText.{proof_ended, ProofSays}
 use Rattle.proof_graph.specs.declared.fault.ProofFault.TheVariants.{FileTooLong}
-use Rattle.proof_graph.specs.Progress.{stage_with, state_of}
+use Rattle.proof_graph.specs.Progress.{stage_with, progress_with}
 use Rattle.proof_graph.specs.ReadLines.{HasReadLines}
 use Rattle.proof_graph.proofs.ReadLemmas.{long_says, short_good, front_stops, short_stops, ended_so}
 use Rattle.proof_graph.proofs.read.proof_answer.Goals as goal
@@ -33,4 +33,4 @@ returns c =
     let names = c.read_last.new.names in
     let progress = c.in_ok-progress.progress in
     let last = c.in_ok-progress.last in
-    ended_so limit bytes (proof_ended (state_of names progress) (stage_with names progress.stage) last) c.proof_of.result (short_good limit bytes c.if-limit-bytes.false names progress last c.in_ok-progress.ensures) c.proof_of.ensures
+    ended_so limit bytes (proof_ended (progress_with names progress) (stage_with names progress.stage) last) c.proof_of.result (short_good limit bytes c.if-limit-bytes.false names progress last c.in_ok-progress.ensures) c.proof_of.ensures

@@ -1,6 +1,6 @@
 use Rattle.std.proofs.Common.{length, refl, sym, ap, subst, ◌∙◌, arith}
 use Rattle.std.proofs.lemmas.Result.{err_from_is_err_and}
-use Rattle.proof_graph.specs.Progress.{state_of}
+use Rattle.proof_graph.specs.Progress.{progress_with}
 use Rattle.proof_graph.proofs.SplitLemmas.{not_returned}
 use Rattle.proof_graph.proofs.ReadLemmas.{GoesOn, begin_is, begin_below, goes_begin, goes_good, returned_more, lines_stop}
 use Rattle.proof_graph.proofs.read_lines.read_lines.Goals as goal
@@ -22,7 +22,7 @@ returns-in_err-progress c =
     let split = c.in-Some.split in
     let p = err_from_is_err_and c.from_residual.result c.from_residual.ensures.1 in
     rw (p.1, p.2)
-    (lines_stop c.judge.new.names c.args.text.now c.loop-split.rest.now split.line.now split.rest.now split.returned (state_of c.loop-split.names c.loop-split.progress) c.loop-split.number c.in-Some.ensures.some c.loop-split.invariant.on
+    (lines_stop c.judge.new.names c.args.text.now c.loop-split.rest.now split.line.now split.rest.now split.returned (progress_with c.loop-split.names c.loop-split.progress) c.loop-split.number c.in-Some.ensures.some c.loop-split.invariant.on
     c.in_err-progress.field-0.0 c.in_err-progress.ensures)
 
 pub loop-split-preserved : goal.loop-split-preserved
@@ -38,7 +38,7 @@ loop-split-preserved c =
     let small = before.small in
     let shorter = is.shorter in
     record {
-      on = goes_good bytes rest split.line.now split.rest.now split.returned (state_of c.loop-split.names c.loop-split.progress) c.loop-split.number is before.on (state_of c.judge.new.names c.in_ok-progress.progress) told.0;
+      on = goes_good bytes rest split.line.now split.rest.now split.returned (progress_with c.loop-split.names c.loop-split.progress) c.loop-split.number is before.on (progress_with c.judge.new.names c.in_ok-progress.progress) told.0;
       last = before.last ∙ is.last;
       returned = returned_more bytes rest split.line.now split.rest.now c.loop-split.returned split.returned is before.returned;
       count = omega arith;

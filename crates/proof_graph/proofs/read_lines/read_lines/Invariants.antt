@@ -1,13 +1,13 @@
 use Rattle.std.proofs.Common.{◌≡◌, ◌+◌, ◌≤◌, length}
 use Rattle.nt_reader.specs.Lines.{cut_of}
 use Rattle.proof_graph.specs.Splitting.{returned_after}
-use Rattle.proof_graph.specs.Progress.{state_of, IsBelow}
+use Rattle.proof_graph.specs.Progress.{progress_with, IsBelow}
 use Rattle.proof_graph.proofs.ReadLemmas.{GoesOn}
 use Rattle.proof_graph.proofs.read_lines.read_lines.Given as goal
 
 abbrev pub invariant-loop-split : goal.invariant-loop-split
 invariant-loop-split l = record {
-  on : GoesOn l.text (state_of l.names l.progress) l.number l.rest;
+  on : GoesOn l.text (progress_with l.names l.progress) l.number l.rest;
   last : (cut_of l.text).rest ≡ (cut_of l.rest).rest;
   returned : (cut_of l.text).returned ≡ returned_after l.returned l.rest;
   count : length (cut_of l.text).ended + 1 ≡ l.number + length (cut_of l.rest).ended;

@@ -7,7 +7,7 @@ use Rattle.proof_graph.proofs.SideLemmas.{one_term_stops}
 use Rattle.proof_graph.proofs.sides.one_term.Goals as goal
 
 pub returns-then-not-begins_term-clause-told : goal.returns-then-not-begins_term-clause-told
-returns-then-not-begins_term-clause-told c = text.no_term c.skip_space-at.ensures (sym c.begins_term.ensures ∙ c.if-not-begins_term.true)
+returns-then-not-begins_term-clause-told c = text.not_a_term c.skip_space-at.ensures (sym c.begins_term.ensures ∙ c.if-not-begins_term.true)
 
 pub returns-in_err-number-clause-told : goal.returns-in_err-number-clause-told
 returns-in_err-number-clause-told c =
@@ -21,7 +21,7 @@ returns-then-skip_space-line-clause-told c =
 
 pub returns-clause-told : goal.returns-clause-told
 returns-clause-told c = (
-  text.alone c.skip_space-at.ensures (sym c.begins_term.ensures ∙ c.if-not-begins_term.false) c.in_ok-number.ensures.told.says
+  text.only_term c.skip_space-at.ensures (sym c.begins_term.ensures ∙ c.if-not-begins_term.false) c.in_ok-number.ensures.told.says
       (subst (IsRunAt is_blank c.args.line.now c.in_ok-number.end) c.if-skip_space-line.false c.skip_space.ensures),
   c.in_ok-number.ensures.told.below,
 )
