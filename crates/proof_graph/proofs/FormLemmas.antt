@@ -1,6 +1,6 @@
 -- Lines of the canonical text of a proof, as their words say them.
-use Rattle.std.proofs.Common.{List, [], ◌∷◌, ◌++◌, ℕ, suc, ◌+◌, ◌-◌, ◌*◌, ◌/◌, ◌%◌, ◌^◌, ◌<◌, ◌≤◌, Bool, true, false, not, ◌&&◌, ◌==◌, nat_le, nat_lt, Option, Some, None, Result, Ok, Err, All, bytes_eq, codes, map, length, slice_get, if◌then◌else◌, ◌≡◌, refl, sym, ap, ap₂, subst, ◌∙◌, arith, lit<, append-nil, append_assoc}
-use Rattle.std.specs.List.{flat_map, list_all}
+use Rattle.std.proofs.Common.{List, [], ◌∷◌, ◌++◌, ℕ, ◌+◌, ◌-◌, ◌%◌, ◌^◌, ◌<◌, true, ◌&&◌, nat_le, nat_lt, Some, Ok, Err, All, bytes_eq, codes, map, length, slice_get, ◌≡◌, refl, sym, ap, ap₂, ◌∙◌, arith, lit<, append-nil}
+use Rattle.std.specs.List.{list_all}
 use Rattle.std.specs.Fmt.{decimal}
 use Rattle.std.proofs.lemmas.Fmt.{decimal_by_steps}
 use Rattle.std.proofs.lemmas.Bool.{and_parts, and_from, cond-true, leb-true, lt-ltb}
@@ -19,7 +19,6 @@ use Rattle.proof_graph.specs.CanonicalProof.{numbers_text, HasSupportForm}
 use Rattle.proof_graph.specs.Words.{no_blank, words_of, two_of, decimal_number}
 use Rattle.proof_graph.specs.ProofText.{or_out_of_range, numbered_one, one_before, numbered_all, numbered_side, number_before, step_numbers, support_of, support_or_done_of, or_bad_line, count_of, step_or_end_of, end_of}
 use Rattle.proof_graph.specs.declared.step_or_end.StepOrEnd.TheVariants.{Begins, Ends}
-use Rattle.proof_graph.specs.declared.fault.ProofFault.{ProofFault}
 use Rattle.proof_graph.specs.declared.fault.ProofFault.TheVariants.{BadLine}
 use Rattle.proof_graph.proofs.WordLemmas.{words_word, number_back, decimal_digits}
 use Rattle.proof_graph.proofs.InNumbers.{AreNamedIn}

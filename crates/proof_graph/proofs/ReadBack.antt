@@ -1,5 +1,5 @@
 -- The canonical text of a proof is read as this proof.
-use Rattle.std.proofs.Common.{List, [], ◌∷◌, ◌++◌, ℕ, zero, suc, ◌+◌, ◌-◌, ◌^◌, ◌<◌, ◌≤◌, Bool, true, false, ◌&&◌, ◌==◌, nat_le, nat_lt, Some, None, Result, Ok, Err, All, codes, length, map, slice_index, take, if◌then◌else◌, ◌≡◌, ◌↔◌, refl, sym, ap, ap₂, subst, ◌∙◌, arith, lit<, append-nil, append_assoc}
+use Rattle.std.proofs.Common.{List, [], ◌∷◌, ◌++◌, ℕ, suc, ◌+◌, ◌-◌, ◌^◌, ◌<◌, ◌≤◌, Bool, true, false, ◌&&◌, ◌==◌, nat_le, nat_lt, Result, Ok, Err, All, codes, length, map, slice_index, take, ◌≡◌, ◌↔◌, refl, sym, ap, ap₂, subst, ◌∙◌, arith, lit<, append-nil, append_assoc}
 use Rattle.std.specs.List.{flat_map, list_all}
 use Rattle.std.specs.Fmt.{decimal}
 use Rattle.std.proofs.lemmas.Bool.{cond_both, cond-true, cond-false, le-leb, le-ltb, ne_eqb, eq-eqb}
@@ -10,7 +10,6 @@ use Rattle.std.proofs.lemmas.List.Elements.{All-nil, All-cons, All-head, All-tai
 use Rattle.gk_base.specs.declared.term.Term.{Term}
 use Rattle.gk_base.specs.declared.term.Term.TheVariants.{Iri, Blank, Plain, Typed, Lang}
 use Rattle.nt_lex.specs.Chars.{is_blank}
-use Rattle.nt_lex.specs.Scans.{IsRunAt}
 use Rattle.nt_lex.specs.Reading.{begins_term}
 use Rattle.nt_reader.specs.Lines.{is_line_byte, cut_of, lines}
 use Rattle.nt_reader.specs.File.{judged, line_of_next}
@@ -20,9 +19,9 @@ use Rattle.term_table.specs.Numbering.{is_named, place_of, with_term, with_terms
 use Rattle.term_text.specs.CanonicalText.{term_text}
 use Rattle.term_text.specs.ReadBack.{CanBeSpelled}
 use Rattle.term_text.proofs.CallerLemmas.{spelled_whole}
-use Rattle.proof_graph.specs.Steps.{SupportShape, StepShape, StepNumbers, step_terms, steps_terms, in_numbers}
+use Rattle.proof_graph.specs.Steps.{SupportShape, StepShape, step_terms, steps_terms, in_numbers}
 use Rattle.proof_graph.specs.CanonicalProof.{numbers_text, support_text, side_text, key_line, step_text, listed_text, count_text, numbered_text, proof_text, HasSupportForm, HasStepForm, CanBeRead}
-use Rattle.proof_graph.specs.Words.{words_of, two_of}
+use Rattle.proof_graph.specs.Words.{words_of}
 use Rattle.proof_graph.specs.ProofText as text
 use Rattle.proof_graph.specs.ProofText.{StageShape, AtHeader, AtCount, AtTerm, AtStep, AtLeft, AtRight, AtSupport, AtEnd, ProofState, proof_start, at_next, after_header, header_of, after_count, stage_of_terms, after_step_or_end, after_support_or_done, numbered_side, after_left, after_right, OneTermSays, StageSays, ProofLinesSay, proof_ended, ProofSays}
 use Rattle.proof_graph.specs.declared.version.Version.TheVariants.{Two}
@@ -303,8 +302,7 @@ steps_plain terms (step ∷ steps) few forms named =
 contents_plain : (terms : List Term) (steps : List StepShape) → length terms < 2 ^ 32 → length steps < 2 ^ 32 → All CanBeSpelled terms → All HasStepForm steps → AreNamedIn terms (steps_terms steps) → AllOf IsText (contents terms steps)
 contents_plain terms steps few_terms few_steps spelled forms named =
     let ends : AllOf IsText (counted (codes "end") (length steps) ∷ []) = (counted_text (codes "end") (length steps) refl (omega arith), tt) in
-    let later = plain_append (flat_map (step_content terms) steps) (counted (codes "end") (length steps) ∷ []) (steps_plain terms steps few_terms forms named) ends in
-    (
+    let later = plain_append (flat_map (step_content terms) steps) (counted (codes "end") (length steps) ∷ []) (steps_plain terms steps few_terms forms named) ends in (
       shown_text (codes "gkey-proof 2") refl,
       (counted_text (codes "terms") (length terms) refl (omega arith), plain_append (map term_text terms) (flat_map (step_content terms) steps ++ counted (codes "end") (length steps) ∷ []) (terms_plain terms spelled) later),
     )
@@ -338,8 +336,7 @@ proof_back limit steps can fits =
     cond-true (nat_le (length all) limit) (lines all) (cut_of (take limit all)).ended (le-leb (length all) limit fits) ∙ lines_are
     in
     let end = at_stage terms steps AtEnd in
-    let says = comes_all proof_start end (contents terms steps) (file_comes terms steps can.few_terms can.few_steps spelled can.each named) in
-    (
+    let says = comes_all proof_start end (contents terms steps) (file_comes terms steps can.few_terms can.few_steps spelled can.each named) in (
       Ok end,
       subst (λ (l : List (List ℕ)). ProofLinesSay proof_start 1 l (Ok end)) (sym judges) says,
       sym (cond-false (nat_lt limit (length all)) (Err (record { line = line_of_next (take limit all) (slice_index all limit); fault = FileTooLong })) (proof_ended end AtEnd (length (lines all))) (le-ltb limit (length all) fits)),

@@ -1,6 +1,5 @@
 -- What a proof file says can be written and read again.
-use Rattle.std.proofs.Common.{List, [], ◌∷◌, ◌++◌, ℕ, suc, ◌+◌, ◌-◌, ◌^◌, ◌<◌, ◌≤◌, Bool, true, false, ◌&&◌, ◌==◌, nat_le, nat_lt, Option, Some, None, Result, Ok, Err, IfOk, IfSome, All, bytes_eq, codes, length, slice_get, slice_index, take, if◌then◌else◌, ◌≡◌, inl, inr, refl, sym, ap, subst, ◌∙◌, arith, append_assoc, length-append}
-use Rattle.std.specs.List.{flat_map}
+use Rattle.std.proofs.Common.{List, [], ◌∷◌, ◌++◌, ℕ, suc, ◌+◌, ◌-◌, ◌^◌, ◌<◌, ◌≤◌, true, ◌&&◌, ◌==◌, nat_le, nat_lt, Option, Some, None, Result, Ok, Err, IfOk, IfSome, All, bytes_eq, codes, length, slice_get, slice_index, take, if◌then◌else◌, ◌≡◌, inl, inr, refl, sym, ap, subst, arith, length-append}
 use Rattle.std.specs.Fmt.{decimal}
 use Rattle.std.proofs.lemmas.Bool.{and_parts, cond_both, cond-true, leb-true, ltb-true, ltb-false, le-leb, eqb-true}
 use Rattle.std.proofs.lemmas.List.Concat.{flat_map-append}
@@ -16,7 +15,6 @@ use Rattle.nt_reader.specs.Lines.{Lined, cut_of, last_of, lines}
 use Rattle.nt_reader.specs.File.{judged, line_of_next}
 use Rattle.nt_reader.proofs.CallerLemmas.{cut_lined}
 use Rattle.key_file.specs.Name.{is_name}
-use Rattle.term_table.specs.Numbering.{names_of}
 use Rattle.term_table.proofs.CallerLemmas.{length-with_terms}
 use Rattle.term_text.specs.ReadBack.{CanBeSpelled}
 use Rattle.proof_graph.specs.Steps.{SupportShape, StepShape, step_terms, steps_terms}

@@ -1,5 +1,5 @@
 -- A proof that tells a journal can be written and read again.
-use Rattle.std.proofs.Common.{Bool, List, [], ◌∷◌, ◌++◌, ℕ, ◌+◌, ◌^◌, ◌<◌, ◌≤◌, true, false, nat_le, ◌&&◌, Some, All, AllPairs, map, length, take, slice_get, get_or, ◌≡◌, ◌≢◌, inl, inr, refl, sym, ap, subst, ◌∙◌, arith, true≢false}
+use Rattle.std.proofs.Common.{Bool, List, [], ◌∷◌, ℕ, ◌^◌, ◌<◌, ◌≤◌, true, false, nat_le, Some, All, AllPairs, map, length, take, slice_get, get_or, ◌≡◌, ◌≢◌, inl, inr, refl, sym, ap, subst, ◌∙◌, arith}
 use Rattle.std.specs.Cmp.{IsEquivalence}
 use Rattle.std.specs.List.{list_all}
 use Rattle.std.specs.Option.{option_map}
@@ -95,8 +95,7 @@ module _ (names : List Term) (K : List Shape) (key_names : List (List ℕ)) (fac
         let slot = supported_at told.pattern.slots k support.slot slot_at in
         let within = slice_get_within told.pattern.slots support.slot (Entity slot.1) slot.2 in
         let slots = (facts told.pattern (All-at IsPattern K e.key told.pattern patterns told.found)).few_slots in
-        let numbers = all_from (are_earlier (length earlier)) step.supports told.earlier k d inside in
-        (
+        let numbers = all_from (are_earlier (length earlier)) step.supports told.earlier k d inside in (
           omega arith,
           All-weaker (λ n. is_earlier (length earlier) n ≡ true) (λ n. (0 < n) × (n < 2 ^ 32)) (λ n h. earlier_form (length earlier) n few h) support.steps
               (all_from (is_earlier (length earlier)) support.steps numbers),
