@@ -1,6 +1,6 @@
 //! Short lists of numbers.
 
-ghost use Rattle.std.specs.Prelude.{◌≡◌, ◌<◌, ◌≤◌, ◌↔◌, [], ◌∷◌, ◌++◌, length, slice_index, IsTrue};
+ghost use Rattle.std.specs.Prelude.{◌≡◌, ◌<◌, ◌≤◌, ◌-◌, ◌↔◌, [], ◌∷◌, ◌++◌, length, take, slice_index, IsTrue};
 
 use std::marker::Model;
 
@@ -60,6 +60,15 @@ impl Places {
     {
         self.items[self.len as usize] = place;
         self.len += 1;
+    }
+
+    /// Takes the last number away.
+    pub fn pop(&mut self)
+        requires { 0 < length self.old }
+        ensures { self.new ≡ take (length self.old - 1) self.old }
+    {
+        self.len -= 1;
+        self.items[self.len as usize] = 0;
     }
 
     /// The number at a slot.

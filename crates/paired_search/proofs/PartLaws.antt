@@ -1,7 +1,7 @@
 -- Lists that fit so far, and whole ones.
-use Rattle.std.proofs.Common.{List, [], ◌∷◌, ◌++◌, ℕ, Some, All, slice_get, slice_index, get_or, take, length, ◌≡◌, ◌≢◌, ◌<◌, ◌≤◌, ◌+◌, inl, inr, refl, sym, ◌∙◌, ap, subst, arith, length-append}
+use Rattle.std.proofs.Common.{List, [], ◌∷◌, ◌++◌, ℕ, Some, All, slice_get, slice_index, get_or, take, length, ◌≡◌, ◌≢◌, ◌<◌, ◌≤◌, ◌+◌, ◌-◌, inl, inr, refl, sym, ◌∙◌, ap, subst, arith, length-append}
 use Rattle.std.proofs.lemmas.Bool.{cases_eq}
-use Rattle.std.proofs.lemmas.List.{get_or-take, get_or_append_left, get_or_at, get_or_default, length-take-le}
+use Rattle.std.proofs.lemmas.List.{get_or-take, get_or_append_left, get_or_at, get_or_default, length-take-le, take_all, take-append-le}
 use Rattle.std.proofs.lemmas.Option.{slice_get_within}
 use Rattle.chase_laws.specs.declared.pattern.Slot.{Slot}
 use Rattle.chase_laws.specs.declared.pattern.Edge.{Edge}
@@ -18,6 +18,13 @@ front_at p m k d h = get_or_append_left p (m ∷ []) d k h
 
 pub last_at : (p : List ℕ) (m d : ℕ) → get_or (p ++ m ∷ []) (length p) d ≡ m
 last_at p m d = get_or_at p m [] d (length p) refl
+
+-- a list without the number that was added last
+pub popped : (x p : List ℕ) (m : ℕ) → x ≡ p ++ m ∷ [] → take (length x - 1) x ≡ p
+popped x p m e =
+    let long : length (p ++ m ∷ []) ≡ length p + 1 = length-append p (m ∷ []) in
+    let few : length (p ++ m ∷ []) - 1 ≡ length p = omega arith in
+    ap (λ (y : List ℕ). take (length y - 1) y) e ∙ ap (λ (k : ℕ). take k (p ++ m ∷ [])) few ∙ take-append-le (length p) p (m ∷ []) (omega arith) ∙ take_all (length p) p (omega arith)
 
 pub part_push : (G : NumberedGraph) (Q : Shape) (slot : Slot) (p : List ℕ) (m : ℕ) → IsPart G Q p → slice_get Q.slots (length p) ≡ Some slot →
     ((k : ℕ) → k < length p → slice_index p k ≢ m) → FitsSlot G slot m → All (EdgeHolds G (p ++ m ∷ [])) Q.edges → IsPart G Q (p ++ m ∷ [])

@@ -1,6 +1,6 @@
 //! The search over all keys, and the search for one of them.
 
-ghost use Rattle.std.specs.Prelude.{◌≡◌, ◌<◌, ◌≤◌, ◌^◌, ℕ, List, Some, IfSome, IfNone, length, slice_get, slice_index};
+ghost use Rattle.std.specs.Prelude.{◌≡◌, ◌<◌, ◌≤◌, ◌^◌, [], ℕ, List, IsTrue, IsFalse, Some, IfSome, IfNone, length, slice_get, slice_index};
 ghost use Rattle.chase_laws.specs.Shape.{Shape};
 ghost use Rattle.chase_laws.specs.Valuation.{IsMatch, Matches};
 ghost use Rattle.chase_laws.specs.View.{same_by};
@@ -23,32 +23,41 @@ pub struct Finding {
     pub right: Places,
 }
 
-/// Two valuations at `a` and `b` that coincide, in the order of the plan; None exactly where there are none.
+/// Whether there are two valuations at `a` and `b` that coincide. The empty lists become such valuations then, in the
+/// order of the plan, and else stay empty.
 fn search_placed(
     graph: &Graph,
     plan: &Plan,
     view: &View,
     a: u32,
     b: u32,
-) -> Option<(Places, Places)>
+    left: &mut Places,
+    right: &mut Places,
+) -> bool
     requires ready { IsReady plan.now.shape }
     requires begins { 0 < length plan.now.shape.slots }
-    ensures found { IfSome result (λ f. IsMatch graph.now plan.now.shape (same_by view.now.pairs) a b f.0 f.1) }
-    ensures none { IfNone result ((v w : List ℕ) → ¬ (IsMatch graph.now plan.now.shape (same_by view.now.pairs) a b v w)) }
+    requires empty_left { left.old ≡ [] }
+    requires empty_right { right.old ≡ [] }
+    ensures found { IsTrue result → IsMatch graph.now plan.now.shape (same_by view.now.pairs) a b left.new right.new }
+    ensures none { IsFalse result → (v w : List ℕ) → ¬ (IsMatch graph.now plan.now.shape (same_by view.now.pairs) a b v w) }
+    ensures kept { IsFalse result → (left.new ≡ []) × (right.new ≡ []) }
 {
     let slot = plan.slot(0);
     let block = plan.block(0);
-    let mut left = Places::empty();
-    let mut right = Places::empty();
-    if !goes_on(graph, plan, block, slot, &left, a) {
-        return None;
+    if !goes_on(graph, plan, block, slot, left, a) {
+        return false;
     }
-    if !joins(graph, plan, view, block, slot, &left, &right, a, b) {
-        return None;
+    if !joins(graph, plan, view, block, slot, left, right, a, b) {
+        return false;
     }
     left.push(a);
     right.push(b);
-    extend(graph, plan, view, left, right)
+    if extend(graph, plan, view, left, right) {
+        return true;
+    }
+    left.pop();
+    right.pop();
+    false
 }
 
 /// A list by slots, from one in the order of the plan.
@@ -65,7 +74,8 @@ fn by_slots(plan: &Plan, places: &Places) -> Places
     list
 }
 
-/// Two valuations of one key at `a` and `b` that coincide up to the view; None exactly where there are none.
+/// Two valuations of one key at `a` and `b` that coincide up to the view; None exactly where there are none. The lists
+/// are empty, and are so again after None.
 fn search_key(
     graph: &Graph,
     pattern: &Pattern,
@@ -73,15 +83,22 @@ fn search_key(
     view: &View,
     a: u32,
     b: u32,
+    left: &mut Places,
+    right: &mut Places,
 ) -> Option<(Places, Places)>
-    requires { IsPlanOf pattern.now plan.now }
+    requires plan { IsPlanOf pattern.now plan.now }
+    requires empty_left { left.old ≡ [] }
+    requires empty_right { right.old ≡ [] }
     ensures found { IfSome result (λ f. IsMatch graph.now pattern.now (same_by view.now.pairs) a b f.0 f.1) }
     ensures none { IfNone result ((v w : List ℕ) → ¬ (IsMatch graph.now pattern.now (same_by view.now.pairs) a b v w)) }
+    ensures kept { IfNone result ((left.new ≡ []) × (right.new ≡ [])) }
 {
     // For the proof alone: the pattern is valid.
     let _ = pattern.slots();
-    let placed = search_placed(graph, plan, view, a, b)?;
-    Some((by_slots(plan, &placed.0), by_slots(plan, &placed.1)))
+    if search_placed(graph, plan, view, a, b, left, right) {
+        return Some((by_slots(plan, left), by_slots(plan, right)));
+    }
+    None
 }
 
 /// Looks for a key with two valuations at `a` and `b` that coincide up to the view, and gives the first key that has
@@ -103,10 +120,13 @@ pub fn search(
         ¬ (IsMatch graph.now Q (same_by view.now.pairs) a b v w)) }
     ensures none { IfNone result (¬ (Matches graph.now patterns.now (same_by view.now.pairs) a b)) }
 {
+    let mut left = Places::empty();
+    let mut right = Places::empty();
     for key in 0..patterns.len() {
         let pattern = &patterns[key];
         let plan = &plans[key];
-        if let Some(found) = search_key(graph, pattern, plan, view, a, b) {
+        let found = search_key(graph, pattern, plan, view, a, b, &mut left, &mut right);
+        if let Some(found) = found {
             return Some(Finding {
                 key: key as u32,
                 left: found.0,

@@ -1,6 +1,6 @@
 //! Two valuations, extended slot by slot.
 
-ghost use Rattle.std.specs.Prelude.{◌≡◌, ◌<◌, ◌++◌, [], ◌∷◌, ◌↔◌, List, ℕ, IsTrue, Some, IfSome, IfNone, length, slice_get};
+ghost use Rattle.std.specs.Prelude.{◌≡◌, ◌<◌, ◌++◌, [], ◌∷◌, ◌↔◌, List, ℕ, IsTrue, IsFalse, Some, length, slice_get};
 ghost use Rattle.chase_laws.specs.View.{same_by};
 ghost use Rattle.key_plan.specs.Route.{IsBlock};
 ghost use Rattle.paired_search.specs.Part.{IsPart, IsPair, IsReady, AreCompletedBy};
@@ -37,46 +37,48 @@ pub fn joins(
     goes_on(graph, plan, block, slot, right, n)
 }
 
-/// Two valuations that coincide and begin with these lists; None exactly where there are none.
+/// Whether there are two valuations that coincide and begin with these lists. The lists become such valuations then,
+/// and else are as before.
 pub fn extend(
     graph: &Graph,
     plan: &Plan,
     view: &View,
-    left: Places,
-    right: Places,
-) -> Option<(Places, Places)>
+    left: &mut Places,
+    right: &mut Places,
+) -> bool
     requires ready { IsReady plan.now.shape }
-    requires begun { 0 < length left }
-    requires pair { IsPair graph.now plan.now.shape (same_by view.now.pairs) left right }
-    ensures found { IfSome result (λ f. AreCompletedBy graph.now plan.now.shape (same_by view.now.pairs) left right f.0 f.1) }
-    ensures none { IfNone result ((v w : List ℕ) → ¬ (AreCompletedBy graph.now plan.now.shape (same_by view.now.pairs) left right v w)) }
+    requires begun { 0 < length left.old }
+    requires pair { IsPair graph.now plan.now.shape (same_by view.now.pairs) left.old right.old }
+    ensures found { IsTrue result → AreCompletedBy graph.now plan.now.shape (same_by view.now.pairs) left.old right.old left.new right.new }
+    ensures none { IsFalse result → (v w : List ℕ) → ¬ (AreCompletedBy graph.now plan.now.shape (same_by view.now.pairs) left.old right.old v w) }
+    ensures kept { IsFalse result → (left.new ≡ left.old) × (right.new ≡ right.old) }
 {
     let s = left.len();
     if s >= plan.len() {
-        return Some((left, right));
+        return true;
     }
     let slot = plan.slot(s);
     let block = plan.block(s);
     let constant = [constant_of(slot)];
-    let lefts = choices(graph, block, slot, &constant, &left);
-    let rights = choices(graph, block, slot, &constant, &right);
+    let lefts = choices(graph, block, slot, &constant, left);
+    let rights = choices(graph, block, slot, &constant, right);
     let tried = firsts(slot, lefts, rights);
     for m in tried {
-        if goes_on(graph, plan, block, slot, &left, *m) {
+        if goes_on(graph, plan, block, slot, left, *m) {
             let own = [*m];
             let partners = seconds(slot, &own, rights);
-            let mut longer_left = left;
-            longer_left.push(*m);
             for n in partners {
-                if joins(graph, plan, view, block, slot, &left, &right, *m, *n) {
-                    let mut longer_right = right;
-                    longer_right.push(*n);
-                    if let Some(found) = extend(graph, plan, view, longer_left, longer_right) {
-                        return Some(found);
+                if joins(graph, plan, view, block, slot, left, right, *m, *n) {
+                    left.push(*m);
+                    right.push(*n);
+                    if extend(graph, plan, view, left, right) {
+                        return true;
                     }
+                    left.pop();
+                    right.pop();
                 }
             }
         }
     }
-    None
+    false
 }

@@ -5,75 +5,103 @@ use Rattle.std.proofs.Common.{Some, slice_get}
 use Rattle.key_plan.specs.Route.{IsBlock}
 use Rattle.chase_laws.specs.View.{same_by}
 use Rattle.paired_search.specs.Part.{IsPart, AreTwins, AreCompletedBy}
+use Rattle.paired_search.proofs.PartLaws.{popped}
 use Rattle.paired_search.proofs.PairLaws.{completes_before, next, none_more, none_left}
 use Rattle.paired_search.proofs.extend.+extend.Goals as goal
-use Rattle.paired_search.proofs.extend.+extend.Goals.{then-joins+in_default, else-joins, then-goes_on+else-loop-n-test, else-goes_on}
+use Rattle.paired_search.proofs.extend.+extend.Goals.{then-joins+else-extend, else-joins, then-goes_on+else-loop-n-test, else-goes_on}
 
-pub returns-in-Some-clause-found : goal.returns-in-Some-clause-found
-returns-in-Some-clause-found t c =
+pub returns-then-extend-clause-found : goal.returns-then-extend-clause-found
+returns-then-extend-clause-found t c = λ _.
     let G = c.args.graph.now in
     let P = c.args.plan.now.shape in
     let same = same_by c.args.view.now.pairs in
-    let f = c.in-Some.found in
+    let p = c.args.left.now in
+    let q = c.args.right.now in
+    let v = c.extend.new.left in
+    let w = c.extend.new.right in
     let m = get_or c.firsts-tried.result.now c.loop-m.m-index 0 in
     let n = get_or c.seconds-partners.result.now c.loop-n.n-index 0 in
-    completes_before G P same c.args.left c.args.right f.0 f.1 m n
-    (subst (λ (p : List ℕ). AreCompletedBy G P same p (c.args.right ++ n ∷ []) f.0 f.1) c.push.ensures
-    (subst (λ (q : List ℕ). AreCompletedBy G P same c.push.new.self q f.0 f.1) c.push-then-joins.ensures c.in-Some.ensures.found))
+    let longer_left : c.push.new.self ≡ p ++ m ∷ [] = c.push.ensures ∙ ap (λ (x : List ℕ). x ++ m ∷ []) c.loop-n.invariant.left in
+    let longer_right : c.push-then-joins.new.self ≡ q ++ n ∷ [] = c.push-then-joins.ensures ∙ ap (λ (x : List ℕ). x ++ n ∷ []) c.loop-n.invariant.right in
+    completes_before G P same p q v w m n
+    (subst (λ (x : List ℕ). AreCompletedBy G P same x (q ++ n ∷ []) v w) longer_left
+    (subst (λ (y : List ℕ). AreCompletedBy G P same c.push.new.self y v w) longer_right (c.extend.ensures.found c.if-extend.true)))
 
 pub loop-n-preserved : goal.loop-n-preserved
 loop-n-preserved t c =
     let G = c.args.graph.now in
     let P = c.args.plan.now.shape in
     let same = same_by c.args.view.now.pairs in
-    let p = c.args.left in
-    let q = c.args.right in
+    let p = c.args.left.now in
+    let q = c.args.right.now in
     let m = get_or c.firsts-tried.result.now c.loop-m.m-index 0 in
     let n = get_or c.seconds-partners.result.now c.loop-n.n-index 0 in
     let short : length p < length P.slots = omega (arith, c.if-s-len.false, c.len.ensures, c.len-s.ensures.length) in
-    none_more G P same p q c.len-s.result m c.loop-n.n-index c.seconds-partners.result.now c.len-s.ensures.length c.requires.pair.as_long short c.loop-n-test.true
-    (elim c.if-joins.branch [
-      | then-joins+in_default w ↦ λ pair v u d. w.in_default.ensures.none v u
-          (subst (λ (x : List ℕ). AreCompletedBy G P same x w.push-then-joins.new.self v u) (sym c.push.ensures)
-          (subst (λ (y : List ℕ). AreCompletedBy G P same (p ++ m ∷ []) y v u) (sym w.push-then-joins.ensures) d))
-      | else-joins w ↦ λ pair v u d. absurd (true≢false (sym (c.joins.ensures.1 pair) ∙ w.if-joins.false))
-    ])
-    c.loop-n.invariant
+    let at_left : c.loop-n.left ++ m ∷ [] ≡ p ++ m ∷ [] = ap (λ (x : List ℕ). x ++ m ∷ []) c.loop-n.invariant.left in
+    let at_right : c.loop-n.right ++ n ∷ [] ≡ q ++ n ∷ [] = ap (λ (x : List ℕ). x ++ n ∷ []) c.loop-n.invariant.right in
+    record {
+      none = none_more G P same p q c.len-s.result m c.loop-n.n-index c.seconds-partners.result.now c.len-s.ensures.length c.requires.pair.as_long short c.loop-n-test.true
+      (elim c.if-joins.branch [
+        | then-joins+else-extend w ↦ λ pair v u d. w.extend.ensures.none w.if-extend.false v u
+            (subst (λ (x : List ℕ). AreCompletedBy G P same x w.push-then-joins.new.self v u) (sym (w.push.ensures ∙ at_left))
+            (subst (λ (y : List ℕ). AreCompletedBy G P same (p ++ m ∷ []) y v u) (sym (w.push-then-joins.ensures ∙ at_right)) d))
+        | else-joins w ↦ λ pair v u d. absurd (true≢false (sym (c.joins.ensures.1 (rw (c.loop-n.invariant.left, c.loop-n.invariant.right) pair)) ∙ w.if-joins.false))
+      ])
+      c.loop-n.invariant.none;
+      left = elim c.if-joins.branch [
+        | then-joins+else-extend w ↦ w.left-is ∙ w.pop.ensures ∙ popped _ p m ((w.extend.ensures.kept w.if-extend.false).0 ∙ w.push.ensures ∙ at_left)
+        | else-joins w ↦ w.left-is ∙ c.loop-n.invariant.left
+      ];
+      right = elim c.if-joins.branch [
+        | then-joins+else-extend w ↦ w.right-is ∙ w.pop-then-joins.ensures ∙ popped _ q n ((w.extend.ensures.kept w.if-extend.false).1 ∙ w.push-then-joins.ensures ∙ at_right)
+        | else-joins w ↦ w.right-is ∙ c.loop-n.invariant.right
+      ];
+    }
 
 pub loop-m-preserved : goal.loop-m-preserved
 loop-m-preserved t c =
     let G = c.args.graph.now in
     let P = c.args.plan.now.shape in
     let same = same_by c.args.view.now.pairs in
-    let p = c.args.left in
-    let q = c.args.right in
+    let p = c.args.left.now in
+    let q = c.args.right.now in
     let tried = c.firsts-tried.result.now in
     let m = get_or tried c.loop-m.m-index 0 in
     let here = c.len-s.ensures.length in
     let short : length p < length P.slots = omega (arith, c.if-s-len.false, c.len.ensures, c.len-s.ensures.length) in
     let more = λ (v w : List ℕ) (d : AreCompletedBy G P same p q v w). next G P same c.slot-slot.result c.block-block.result.now p q v w c.requires.pair.as_long short (subst (λ k. slice_get P.slots k ≡ Some c.slot-slot.result) here c.slot-slot.ensures) (subst (λ k. IsBlock P k c.block-block.result.now) here c.block-block.ensures) d in
-    none_left G P same p q c.len-s.result c.loop-m.m-index tried c.loop-m-test.true
-    (λ v w d at.
-    let x = more v w d in
-    let em : slice_index v (length p) ≡ m = ap (slice_index v) (sym here) ∙ at in
-    elim c.if-goes_on.branch [
-      | then-goes_on+else-loop-n-test y ↦
-          (let right = c.choices-rights.ensures (slice_index w (length p)) x.fit_right x.right in
-          let n = y.seconds-partners.ensures m (slice_index w (length p)) (0, omega arith, refl) right (subst (λ k. AreTwins c.slot-slot.result k (slice_index w (length p))) em x.twins) in
-          y.loop-n.invariant v w d at (rw (take_all y.loop-n.n-index y.seconds-partners.result.now y.loop-n-test.false) (subst (λ k. Contains y.seconds-partners.result.now (slice_index w k)) (sym here) n)))
-      | else-goes_on y ↦ absurd (true≢false (sym (c.goes_on.ensures.1 (subst (λ k. IsPart G P (p ++ k ∷ [])) em x.pair.left)) ∙ y.if-goes_on.false))
-    ])
-    c.loop-m.invariant
+    record {
+      none = none_left G P same p q c.len-s.result c.loop-m.m-index tried c.loop-m-test.true
+      (λ v w d at.
+      let x = more v w d in
+      let em : slice_index v (length p) ≡ m = ap (slice_index v) (sym here) ∙ at in
+      elim c.if-goes_on.branch [
+        | then-goes_on+else-loop-n-test y ↦
+            (let right = c.choices-rights.ensures (slice_index w (length p)) x.fit_right x.right in
+            let n = y.seconds-partners.ensures m (slice_index w (length p)) (0, omega arith, refl) right (subst (λ k. AreTwins c.slot-slot.result k (slice_index w (length p))) em x.twins) in
+            y.loop-n.invariant.none v w d at (rw (take_all y.loop-n.n-index y.seconds-partners.result.now y.loop-n-test.false) (subst (λ k. Contains y.seconds-partners.result.now (slice_index w k)) (sym here) n)))
+        | else-goes_on y ↦ absurd (true≢false (sym (c.goes_on.ensures.1 (rw c.loop-m.invariant.left (subst (λ k. IsPart G P (p ++ k ∷ [])) em x.pair.left))) ∙ y.if-goes_on.false))
+      ])
+      c.loop-m.invariant.none;
+      left = elim c.if-goes_on.branch [
+        | then-goes_on+else-loop-n-test y ↦ y.left-is ∙ y.loop-n.invariant.left
+        | else-goes_on y ↦ y.left-is ∙ c.loop-m.invariant.left
+      ];
+      right = elim c.if-goes_on.branch [
+        | then-goes_on+else-loop-n-test y ↦ y.right-is ∙ y.loop-n.invariant.right
+        | else-goes_on y ↦ y.right-is ∙ c.loop-m.invariant.right
+      ];
+    }
 
 pub returns-clause-none : goal.returns-clause-none
-returns-clause-none t c = λ v w d.
+returns-clause-none t c = λ _ v w d.
     let G = c.args.graph.now in
     let P = c.args.plan.now.shape in
     let same = same_by c.args.view.now.pairs in
-    let p = c.args.left in
-    let q = c.args.right in
+    let p = c.args.left.now in
+    let q = c.args.right.now in
     let here = c.len-s.ensures.length in
     let short : length p < length P.slots = omega (arith, c.if-s-len.false, c.len.ensures, c.len-s.ensures.length) in
     let x = next G P same c.slot-slot.result c.block-block.result.now p q v w c.requires.pair.as_long short (subst (λ k. slice_get P.slots k ≡ Some c.slot-slot.result) here c.slot-slot.ensures) (subst (λ k. IsBlock P k c.block-block.result.now) here c.block-block.ensures) d in
     let at = c.firsts-tried.ensures (slice_index v (length p)) (slice_index w (length p)) (c.choices-lefts.ensures (slice_index v (length p)) x.fit_left x.left) (c.choices-rights.ensures (slice_index w (length p)) x.fit_right x.right) x.twins in
-    c.loop-m.invariant v w d (rw (take_all c.loop-m.m-index c.firsts-tried.result.now c.loop-m-test.false) (subst (λ k. Contains c.firsts-tried.result.now (slice_index v k)) (sym here) at))
+    c.loop-m.invariant.none v w d (rw (take_all c.loop-m.m-index c.firsts-tried.result.now c.loop-m-test.false) (subst (λ k. Contains c.firsts-tried.result.now (slice_index v k)) (sym here) at))
