@@ -31,6 +31,33 @@ row_in G p m e proper past holds = elim proper [
   | inr x ↦ absurd (let h = x.0 in omega arith)
 ]
 
+-- and back
+pub out_row : (G : NumberedGraph) (p : List ℕ) (m : ℕ) (e : Edge) → IsProper (length p) e → e.from < length p → HasRow G (slice_index p e.from) e.pred m → EdgeHolds G (p ++ m ∷ []) e
+out_row G p m e proper before row = elim proper [
+  | inl x ↦ absurd (let h = x.0 in omega arith)
+  | inr x ↦ (λ from to.
+      let last : m ≡ slice_index (p ++ m ∷ []) e.to = sym (ap (slice_index (p ++ m ∷ [])) x.1 ∙ last_at p m 0) in
+      subst (λ (o : ℕ). HasRow G (slice_index (p ++ m ∷ []) e.from) e.pred o) last (subst (λ (s : ℕ). HasRow G s e.pred m) (sym (front_at p m e.from 0 before)) row))
+]
+
+pub in_row : (G : NumberedGraph) (p : List ℕ) (m : ℕ) (e : Edge) → IsProper (length p) e → length p ≤ e.from → HasRow G m e.pred (slice_index p e.to) → EdgeHolds G (p ++ m ∷ []) e
+in_row G p m e proper past row = elim proper [
+  | inl x ↦ (λ from to.
+      let last : m ≡ slice_index (p ++ m ∷ []) e.from = sym (ap (slice_index (p ++ m ∷ [])) x.0 ∙ last_at p m 0) in
+      subst (λ (s : ℕ). HasRow G s e.pred (slice_index (p ++ m ∷ []) e.to)) last (subst (λ (o : ℕ). HasRow G m e.pred o) (sym (front_at p m e.to 0 x.1)) row))
+  | inr x ↦ absurd (let h = x.0 in omega arith)
+]
+
+-- the ends of a block's edges
+pub block_ends : (P : Shape) (s : ℕ) (block : List Edge) → IsBlock P s block → All (λ e. (e.from ≤ s) × (e.to ≤ s)) block
+block_ends P s block is = λ k d in_k. elim (is.ends k d in_k) [
+  | inl proper ↦ elim proper [
+    | inl x ↦ (let a = x.0 in omega arith, let b = x.1 in omega arith)
+    | inr x ↦ (let a = x.0 in omega arith, let b = x.1 in omega arith)
+  ]
+  | inr x ↦ (let a = x.0 in omega arith, let b = x.1 in omega arith)
+]
+
 -- the edges of the block and those before give all
 pub block_whole : (G : NumberedGraph) (P : Shape) (p : List ℕ) (m : ℕ) (block : List Edge) → IsBlock P (length p) block → IsPart G P p → All (EdgeHolds G (p ++ m ∷ [])) block → All (EdgeHolds G (p ++ m ∷ [])) P.edges
 block_whole G P p m block is part holds = λ k d in_k. each (get_or P.edges k d) (is.every k d in_k) (part.edges k d in_k)

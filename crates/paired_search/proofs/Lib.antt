@@ -1,5 +1,6 @@
 mod BlockLaws
 mod Labels
 mod Moves
+mod Names
 mod PairLaws
 mod PartLaws

@@ -27,6 +27,7 @@ pub record Next (G : NumberedGraph) (Q : Shape) (same : ℕ → ℕ → Bool) (s
   pub pair : IsPair G Q same (p ++ m ∷ []) (q ++ n ∷ [])
   pub left : All (EdgeHolds G (p ++ m ∷ [])) block
   pub right : All (EdgeHolds G (q ++ n ∷ [])) block
+  pub agree : AgreeAt G same (length p) slot m n
   pub twins : AreTwins slot m n
   pub fit_left : FitsSlot G slot m
   pub fit_right : FitsSlot G slot n
@@ -110,6 +111,7 @@ module _ (G : NumberedGraph) (Q : Shape) (same : ℕ → ℕ → Bool) where
         pair = both.0;
         left = block_part G Q (p ++ m ∷ []) (length p) block is both.0.left.edges;
         right = block_part G Q (q ++ n ∷ []) (length p) block is both.0.right.edges;
+        agree = next_agrees p q m n slot as_long at both.0;
         twins = twins_of (length p) slot m n (next_agrees p q m n slot as_long at both.0);
         fit_left = c.left.kinds (length p) slot at;
         fit_right = c.right.kinds (length p) slot at;

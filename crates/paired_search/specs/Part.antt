@@ -1,5 +1,5 @@
 -- Lists that are valuations of the first slots of a pattern (this project's own).
-use Rattle.std.specs.Prelude.{List, [], ◌∷◌, ◌++◌, ℕ, Bool, take, Some, Contains, All, AllPairs, length, slice_get, slice_index, ⊤, ◌≡◌, ◌≢◌, ◌<◌, ◌≤◌}
+use Rattle.std.specs.Prelude.{List, [], ◌∷◌, ◌++◌, ℕ, Bool, take, Some, Contains, All, AllPairs, length, slice_get, slice_index, slice_index_or, ⊤, ◌≡◌, ◌≢◌, ◌<◌, ◌≤◌}
 use Rattle.chase_laws.specs.declared.pattern.Slot.{Slot}
 use Rattle.chase_laws.specs.declared.pattern.Slot.TheVariants.{Entity, Any as AnyOf, Value, Folded, Fixed}
 use Rattle.chase_laws.specs.declared.pattern.Edge.{Edge}
@@ -48,6 +48,10 @@ Covers G p block chosen = (m : ℕ) → All (EdgeHolds G (p ++ m ∷ [])) block 
 -- each number that is fit for the slot and that these edges allow is among the chosen ones
 abbrev pub CoversFit : NumberedGraph → Slot → List ℕ → List Edge → List ℕ → Type 0
 CoversFit G slot p block chosen = (m : ℕ) → FitsSlot G slot m → All (EdgeHolds G (p ++ m ∷ [])) block → Contains chosen m
+
+-- the edge at a place of the block is a row, of the list with this number behind it, unless the block ends before
+abbrev pub HoldsAt : NumberedGraph → List ℕ → List Edge → ℕ → ℕ → Type 0
+HoldsAt G p block place m = (d : Edge) → place < length block → EdgeHolds G (p ++ m ∷ []) (slice_index_or block place d)
 
 -- a pattern of at most 16 slots whose edges have slots at their ends
 pub record IsReady (P : Shape) : Type 0 where

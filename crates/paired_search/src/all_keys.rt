@@ -44,10 +44,21 @@ fn search_placed(
 {
     let slot = plan.slot(0);
     let block = plan.block(0);
-    if !goes_on(graph, plan, block, slot, left, a) {
+    if !goes_on(graph, plan, block, block.len(), slot, left, a) {
         return false;
     }
-    if !joins(graph, plan, view, block, slot, left, right, a, b) {
+    if !joins(
+        graph,
+        plan,
+        view,
+        block,
+        block.len(),
+        slot,
+        left,
+        right,
+        a,
+        b,
+    ) {
         return false;
     }
     left.push(a);

@@ -3,21 +3,23 @@
 ghost use Rattle.std.specs.Prelude.{◌≡◌, ◌<◌, ◌++◌, [], ◌∷◌, ◌↔◌, List, ℕ, IsTrue, IsFalse, Some, length, slice_get};
 ghost use Rattle.chase_laws.specs.View.{same_by};
 ghost use Rattle.key_plan.specs.Route.{IsBlock};
-ghost use Rattle.paired_search.specs.Part.{IsPart, IsPair, IsReady, AreCompletedBy};
+ghost use Rattle.paired_search.specs.Part.{HoldsAt, IsPart, IsPair, IsReady, AreCompletedBy};
 
 use crate::View;
-use crate::choices::{choices, constant_of, firsts, seconds};
+use crate::choices::{choices, constant_of, partners, sides};
 use crate::fits::{agree, goes_on};
 use chase_laws::{Edge, Places, Slot};
 use key_plan::Plan;
 use typed_graph::Graph;
 
-/// Whether two lists go on with one more name each, of which the left one is known to do.
+/// Whether two lists go on with one more name each, of which the left one is known to do. On the right the edge at place
+/// `known` of the block is known to be a row.
 pub fn joins(
     graph: &Graph,
     plan: &Plan,
     view: &View,
     block: &[Edge],
+    known: usize,
     slot: Slot,
     left: &Places,
     right: &Places,
@@ -27,14 +29,14 @@ pub fn joins(
     requires pair { IsPair graph.now plan.now.shape (same_by view.now.pairs) left.now right.now }
     requires block { IsBlock plan.now.shape (length left.now) block.now }
     requires slot { slice_get plan.now.shape.slots (length left.now) ≡ Some slot }
-    requires few { length left.now < 16 }
+    requires known { HoldsAt graph.now right.now block.now known n }
     requires left { IsPart graph.now plan.now.shape (left.now ++ m ∷ []) }
     ensures { IsTrue result ↔ IsPair graph.now plan.now.shape (same_by view.now.pairs) (left.now ++ m ∷ []) (right.now ++ n ∷ []) }
 {
     if !agree(graph, view, left.len(), slot, m, n) {
         return false;
     }
-    goes_on(graph, plan, block, slot, right, n)
+    goes_on(graph, plan, block, known, slot, right, n)
 }
 
 /// Whether there are two valuations that coincide and begin with these lists. The lists become such valuations then,
@@ -62,13 +64,24 @@ pub fn extend(
     let constant = [constant_of(slot)];
     let lefts = choices(graph, block, slot, &constant, left);
     let rights = choices(graph, block, slot, &constant, right);
-    let tried = firsts(slot, lefts, rights);
+    let (tried, others) = sides(slot, lefts.names, rights.names);
     for m in tried {
-        if goes_on(graph, plan, block, slot, left, *m) {
-            let own = [*m];
-            let partners = seconds(slot, &own, rights);
-            for n in partners {
-                if joins(graph, plan, view, block, slot, left, right, *m, *n) {
+        let own = [*m];
+        let beside = partners(graph, view, s, slot, &own, others);
+        if !beside.is_empty() && goes_on(graph, plan, block, lefts.place, slot, left, *m) {
+            for n in beside {
+                if joins(
+                    graph,
+                    plan,
+                    view,
+                    block,
+                    rights.place,
+                    slot,
+                    left,
+                    right,
+                    *m,
+                    *n,
+                ) {
                     left.push(*m);
                     right.push(*n);
                     if extend(graph, plan, view, left, right) {

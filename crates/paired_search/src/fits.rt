@@ -1,11 +1,11 @@
 //! What one more name has to be, for a list that is part of a valuation to stay so.
 
-ghost use Rattle.std.specs.Prelude.{◌≡◌, ◌≢◌, ◌<◌, ◌++◌, [], ◌∷◌, ◌↔◌, ℕ, All, IsTrue, Some, length, slice_get, slice_index};
+ghost use Rattle.std.specs.Prelude.{◌≡◌, ◌≢◌, ◌<◌, ◌≤◌, ◌++◌, [], ◌∷◌, ◌↔◌, ℕ, All, IsTrue, Some, length, slice_get, slice_index};
 ghost use Rattle.chase_laws.specs.Graph.{IsLiteral, AreAlike};
 ghost use Rattle.chase_laws.specs.Valuation.{FitsSlot, AgreeAt};
 ghost use Rattle.chase_laws.specs.View.{same_by};
 ghost use Rattle.key_plan.specs.Route.{IsBlock};
-ghost use Rattle.paired_search.specs.Part.{EdgeHolds, IsPart};
+ghost use Rattle.paired_search.specs.Part.{EdgeHolds, HoldsAt, IsPart};
 
 use crate::View;
 use chase_laws::{Edge, Places, Slot};
@@ -25,26 +25,24 @@ fn fits_slot(graph: &Graph, slot: Slot, n: u32) -> bool
     }
 }
 
-/// Whether a number is a literal that is alike to this literal.
-fn is_alike_literal(graph: &Graph, m: u32, n: u32) -> bool
-    requires { IsLiteral graph.now m }
-    ensures { IsTrue result ↔ (IsLiteral graph.now n × AreAlike graph.now m n) }
+/// Whether two numbers are literals that are alike.
+fn are_alike_literals(graph: &Graph, m: u32, n: u32) -> bool
+    ensures { IsTrue result ↔ (IsLiteral graph.now m × IsLiteral graph.now n × AreAlike graph.now m n) }
 {
-    graph.is_literal(n) && graph.alike(m) == graph.alike(n)
+    graph.is_literal(m) && graph.is_literal(n) && graph.alike(m) == graph.alike(n)
 }
 
-/// Whether two names agree at slot `s`, of which the first is fit for it. Of a folded value the second one is looked
-/// at for being a literal, too.
+/// Whether two names agree at slot `s`. Whether they are fit for it is not asked, but of folded values, which have to be
+/// literals.
 pub fn agree(graph: &Graph, view: &View, s: usize, slot: Slot, m: u32, n: u32) -> bool
-    requires { FitsSlot graph.now slot m }
     ensures yes { IsTrue result → AgreeAt graph.now (same_by view.now.pairs) s slot m n }
-    ensures no { FitsSlot graph.now slot n → AgreeAt graph.now (same_by view.now.pairs) s slot m n → IsTrue result }
+    ensures no { FitsSlot graph.now slot m → FitsSlot graph.now slot n → AgreeAt graph.now (same_by view.now.pairs) s slot m n → IsTrue result }
 {
     match slot {
         Slot::Entity(_) => s == 0 || view.same(m, n),
         Slot::Any(_) => true,
         Slot::Value => m == n,
-        Slot::Folded => is_alike_literal(graph, m, n),
+        Slot::Folded => are_alike_literals(graph, m, n),
         Slot::Fixed(_) => true,
     }
 }
@@ -61,27 +59,37 @@ fn is_new(places: &Places, m: u32) -> bool
     true
 }
 
-/// Whether an edge between names of the list is a row.
-fn edge_holds(graph: &Graph, edge: Edge, places: &Places) -> bool
-    ensures { IsTrue result ↔ EdgeHolds graph.now places.now edge }
+/// The name at a slot of the list with one more name.
+fn name_at(places: &Places, m: u32, slot: usize) -> u32
+    requires { slot ≤ length places.now }
+    ensures { result ≡ slice_index (places.now ++ m ∷ []) slot }
 {
-    let from = edge.from as usize;
-    let to = edge.to as usize;
-    if from >= places.len() {
-        return true;
+    if slot < places.len() {
+        places.get(slot)
+    } else {
+        m
     }
-    if to >= places.len() {
-        return true;
-    }
-    graph.has(places.get(from), edge.pred, places.get(to))
 }
 
-/// Whether each such edge is.
-fn edges_hold(graph: &Graph, edges: &[Edge], places: &Places) -> bool
-    ensures { IsTrue result ↔ All (EdgeHolds graph.now places.now) edges.now }
+/// Whether an edge between names of the list with one more name is a row.
+fn edge_holds(graph: &Graph, edge: Edge, places: &Places, m: u32) -> bool
+    requires from { edge.from ≤ length places.now }
+    requires to { edge.to ≤ length places.now }
+    ensures { IsTrue result ↔ EdgeHolds graph.now (places.now ++ m ∷ []) edge }
 {
-    for edge in edges {
-        if !edge_holds(graph, *edge, places) {
+    let from = name_at(places, m, edge.from as usize);
+    let to = name_at(places, m, edge.to as usize);
+    graph.has(from, edge.pred, to)
+}
+
+/// Whether each edge of a block is. Of the one at place `known` it is known.
+fn edges_hold(graph: &Graph, block: &[Edge], known: usize, places: &Places, m: u32) -> bool
+    requires ends { All (λ e. (e.from ≤ length places.now) × (e.to ≤ length places.now)) block.now }
+    requires known { HoldsAt graph.now places.now block.now known m }
+    ensures { IsTrue result ↔ All (EdgeHolds graph.now (places.now ++ m ∷ [])) block.now }
+{
+    for place in 0..block.len() {
+        if place != known && !edge_holds(graph, block[place], places, m) {
             return false;
         }
     }
@@ -89,11 +97,12 @@ fn edges_hold(graph: &Graph, edges: &[Edge], places: &Places) -> bool
 }
 
 /// Whether a list that is part of a valuation stays so with one more name: whether the name is new, fit for its slot,
-/// and joined to the names before it as the block's edges ask.
+/// and joined to the names before it as the block's edges ask. The edge at place `known` is known to be a row.
 pub fn goes_on(
     graph: &Graph,
     plan: &Plan,
     block: &[Edge],
+    known: usize,
     slot: Slot,
     places: &Places,
     m: u32,
@@ -101,7 +110,7 @@ pub fn goes_on(
     requires part { IsPart graph.now plan.now.shape places.now }
     requires block { IsBlock plan.now.shape (length places.now) block.now }
     requires slot { slice_get plan.now.shape.slots (length places.now) ≡ Some slot }
-    requires few { length places.now < 16 }
+    requires known { HoldsAt graph.now places.now block.now known m }
     ensures { IsTrue result ↔ IsPart graph.now plan.now.shape (places.now ++ m ∷ []) }
 {
     // Only the contract speaks of the plan: its pattern is the one that the list is part of a valuation of.
@@ -109,7 +118,5 @@ pub fn goes_on(
     if !is_new(places, m) || !fits_slot(graph, slot, m) {
         return false;
     }
-    let mut longer = *places;
-    longer.push(m);
-    edges_hold(graph, block, &longer)
+    edges_hold(graph, block, known, places, m)
 }

@@ -1,10 +1,17 @@
 -- Each edge alone covers what all allow.
+use Rattle.std.proofs.Common.{[], ◌∷◌, ◌++◌, subst}
+use Rattle.std.proofs.lemmas.List.{get_or_default}
+use Rattle.paired_search.specs.Part.{EdgeHolds}
 use Rattle.paired_search.proofs.choices.nearest.Goals as goal
-use Rattle.paired_search.proofs.choices.nearest.Goals.{then-edge+then-other-best, then-edge+else-other-best, else-edge}
+use Rattle.paired_search.proofs.choices.nearest.Goals.{then-edge+then-other-names, then-edge+else-other-names, else-edge}
 
 pub loop-place-preserved : goal.loop-place-preserved
 loop-place-preserved c = elim c.if-edge.branch [
-  | then-edge+then-other-best w ↦ rw w.best-is (λ m holds. w.reach-other.ensures m (holds c.loop-place.place _ c.loop-place-test.true))
-  | then-edge+else-other-best w ↦ rw w.best-is c.loop-place.invariant
-  | else-edge w ↦ rw w.best-is c.loop-place.invariant
+  | then-edge+then-other-names w ↦ rw (w.names-is, w.chosen-is) (record {
+    covers = λ m holds. (w.reach-other.ensures.exact m).1 (holds c.loop-place.place _ c.loop-place-test.true);
+    holds = λ m found d in_block. subst (EdgeHolds c.args.graph.now (c.args.places.now ++ m ∷ [])) (get_or_default c.args.block.now c.loop-place.place _ d in_block) ((w.reach-other.ensures.exact m).0 found);
+    ascending = w.reach-other.ensures.ascending;
+  })
+  | then-edge+else-other-names w ↦ rw (w.names-is, w.chosen-is) c.loop-place.invariant
+  | else-edge w ↦ rw (w.names-is, w.chosen-is) c.loop-place.invariant
 ]

@@ -1,5 +1,11 @@
-use Rattle.paired_search.specs.Part.{Covers}
+use Rattle.std.proofs.Common.{ℕ, Contains}
+use Rattle.std.specs.List.Sorted.{IsStrictlyIncreasing}
+use Rattle.paired_search.specs.Part.{Covers, HoldsAt}
 use Rattle.paired_search.proofs.choices.nearest.Given as goal
 
 abbrev pub invariant-loop-place : goal.invariant-loop-place
-invariant-loop-place l = Covers l.graph l.places l.block l.best
+invariant-loop-place l = record {
+  covers : Covers l.graph l.places l.block l.names;
+  holds : (m : ℕ) → Contains l.names m → HoldsAt l.graph l.places l.block l.chosen m;
+  ascending : IsStrictlyIncreasing l.names;
+}

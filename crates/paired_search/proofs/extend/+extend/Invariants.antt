@@ -15,7 +15,7 @@ invariant-loop-m l = record {
 
 abbrev pub invariant-loop-n : goal.invariant-loop-n
 invariant-loop-n l = record {
-  none : (v w : List ℕ) → AreCompletedBy l.graph l.plan.shape (same_by l.view.pairs) l.fn.left l.fn.right v w → get_or v l.s 0 ≡ l.m → Contains (take l.n-index l.partners) (get_or w l.s 0) → ⊥;
+  none : (v w : List ℕ) → AreCompletedBy l.graph l.plan.shape (same_by l.view.pairs) l.fn.left l.fn.right v w → get_or v l.s 0 ≡ l.m → Contains (take l.n-index l.beside) (get_or w l.s 0) → ⊥;
   left : l.left ≡ l.fn.left;
   right : l.right ≡ l.fn.right;
 }

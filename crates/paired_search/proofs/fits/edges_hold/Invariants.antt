@@ -1,6 +1,6 @@
-use Rattle.std.proofs.Common.{take, All}
+use Rattle.std.proofs.Common.{take, All, [], ◌∷◌, ◌++◌}
 use Rattle.paired_search.specs.Part.{EdgeHolds}
 use Rattle.paired_search.proofs.fits.edges_hold.Given as goal
 
-abbrev pub invariant-loop-edge : goal.invariant-loop-edge
-invariant-loop-edge l = All (EdgeHolds l.graph l.places) (take l.edge-index l.edges)
+abbrev pub invariant-loop-place : goal.invariant-loop-place
+invariant-loop-place l = All (EdgeHolds l.graph (l.places ++ l.m ∷ [])) (take l.place l.block)

@@ -1,9 +1,11 @@
 -- The number is new, has the slot's kind, and each edge holds.
-use Rattle.std.proofs.Common.{ℕ, List, ◌++◌, ◌∷◌, [], All, subst, sym}
-use Rattle.paired_search.specs.Part.{EdgeHolds}
+use Rattle.std.proofs.Common.{[], ◌∷◌, ◌++◌}
 use Rattle.paired_search.proofs.PartLaws.{part_push}
-use Rattle.paired_search.proofs.BlockLaws.{block_whole, block_part}
+use Rattle.paired_search.proofs.BlockLaws.{block_whole, block_part, block_ends}
 use Rattle.paired_search.proofs.fits.goes_on.Goals as goal
+
+pub edges_hold-requires-clause-ends : goal.edges_hold-requires-clause-ends
+edges_hold-requires-clause-ends c = block_ends c.args.plan.now.shape _ c.args.block.now c.requires.block
 
 pub returns : goal.returns
 returns c =
@@ -12,6 +14,6 @@ returns c =
     let p = c.args.places.now in
     let m = c.args.m in (
       (λ h. part_push G P c.args.slot p m c.requires.part c.requires.slot (c.is_new.ensures.0 c.if-not-is_new.false) (c.fits_slot.ensures.0 c.if-not-fits_slot.false)
-          (block_whole G P p m c.args.block.now c.requires.block c.requires.part (subst (λ (q : List ℕ). All (EdgeHolds G q) c.args.block.now) c.push.ensures (c.edges_hold.ensures.0 h)))),
-      (λ h. c.edges_hold.ensures.1 (subst (λ (q : List ℕ). All (EdgeHolds G q) c.args.block.now) (sym c.push.ensures) (block_part G P (p ++ m ∷ []) _ c.args.block.now c.requires.block h.edges))),
+          (block_whole G P p m c.args.block.now c.requires.block c.requires.part (c.edges_hold.ensures.0 h))),
+      (λ h. c.edges_hold.ensures.1 (block_part G P (p ++ m ∷ []) _ c.args.block.now c.requires.block h.edges)),
     )
