@@ -1,0 +1,66 @@
+-- What pairing asks along one edge, and of lists of numbers (this project's own).
+use Rattle.std.specs.Prelude.{List, ℕ, Contains, Some, slice_get, ◌≡◌}
+use Rattle.chase_laws.specs.declared.pattern.Edge.{Edge}
+use Rattle.chase_laws.specs.declared.pattern.Slot.TheVariants.{Value}
+use Rattle.chase_laws.specs.Shape.{Shape}
+use Rattle.chase_laws.specs.Graph.{NumberedGraph, HasRow}
+use Rattle.chase_laws.specs.Valuation.{Designates}
+use Rattle.chase_laws.specs.Pairing.{ArePaired}
+
+-- If the edge begins at slot s, rows lead from u and w to two numbers that are paired to depth d at its end.
+abbrev pub ArePairedForth : NumberedGraph → Shape → ℕ → Edge → ℕ → ℕ → ℕ → Type 0
+ArePairedForth G Q d e s u w = e.from ≡ s → (u' w' : ℕ) × ArePaired G Q d e.to u' w' × HasRow G u e.pred u' × HasRow G w e.pred w'
+
+-- if it ends at slot s, rows lead from two such numbers at its beginning to u and w
+abbrev pub ArePairedBack : NumberedGraph → Shape → ℕ → Edge → ℕ → ℕ → ℕ → Type 0
+ArePairedBack G Q d e s u w = e.to ≡ s → (u' w' : ℕ) × ArePaired G Q d e.from u' w' × HasRow G u' e.pred u × HasRow G w' e.pred w
+
+-- for each end of the edge that is at slot s
+abbrev pub ArePairedAlong : NumberedGraph → Shape → ℕ → Edge → ℕ → ℕ → ℕ → Type 0
+ArePairedAlong G Q d e s u w = ArePairedForth G Q d e s u w × ArePairedBack G Q d e s u w
+
+-- two numbers, one of each list, are paired
+pub record HavePaired (G : NumberedGraph) (Q : Shape) (d s : ℕ) (us ws : List ℕ) : Type 0 where
+  pub left : ℕ
+  pub right : ℕ
+  pub in_left : Contains us left
+  pub in_right : Contains ws right
+  pub paired : ArePaired G Q d s left right
+
+-- a number of the list is paired with u
+pub record HasPartner (G : NumberedGraph) (Q : Shape) (d s u : ℕ) (ws : List ℕ) : Type 0 where
+  pub right : ℕ
+  pub in_right : Contains ws right
+  pub paired : ArePaired G Q d s u right
+
+-- a number of the list is paired with itself
+pub record HasAlone (G : NumberedGraph) (Q : Shape) (d s : ℕ) (ns : List ℕ) : Type 0 where
+  pub number : ℕ
+  pub in_list : Contains ns number
+  pub paired : ArePaired G Q d s number number
+
+-- the edge leads from slot s to a value variable
+pub record IsValueEdge (Q : Shape) (s : ℕ) (e : Edge) : Type 0 where
+  pub edge : Contains Q.edges e
+  pub from : e.from ≡ s
+  pub to : slice_get Q.slots e.to ≡ Some Value
+
+-- a number that both lists have is paired with itself
+pub record HaveCommon (G : NumberedGraph) (Q : Shape) (d s : ℕ) (us ws : List ℕ) : Type 0 where
+  pub number : ℕ
+  pub in_left : Contains us number
+  pub in_right : Contains ws number
+  pub paired : ArePaired G Q d s number number
+
+-- a number that both lists have is paired with u
+pub record HaveCommonPartner (G : NumberedGraph) (Q : Shape) (d s u : ℕ) (xs ys : List ℕ) : Type 0 where
+  pub right : ℕ
+  pub in_first : Contains xs right
+  pub in_second : Contains ys right
+  pub paired : ArePaired G Q d s u right
+
+-- the key designates a type of both, and they are paired to depth 2 at its first slot
+pub record ArePairedUnder (G : NumberedGraph) (Q : Shape) (a b : ℕ) : Type 0 where
+  pub left : Designates G Q a
+  pub right : Designates G Q b
+  pub paired : ArePaired G Q 2 0 a b

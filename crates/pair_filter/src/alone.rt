@@ -1,0 +1,147 @@
+//! Whether a key pairs a name with itself. It does so wherever it pairs it with any name, and to see it each name is looked
+//! at by itself, with no partner.
+
+ghost use Rattle.std.specs.Prelude.{◌≡◌, ◌<◌, ◌↔◌, Contains, IsTrue, length};
+ghost use Rattle.chase_laws.specs.Pairing.{ArePaired};
+ghost use Rattle.std.specs.List.Sorted.{IsStrictlyIncreasing};
+ghost use Rattle.pair_filter.specs.Along.{ArePairedForth, ArePairedBack, HasAlone, HaveCommon};
+
+use crate::here::is_here;
+use crate::parts::{edge_at, edge_count};
+use chase_laws::{Edge, Pattern};
+use typed_graph::Graph;
+use typed_graph::ascending::holds;
+
+/// Whether a name is paired with itself to a depth at slot `s`.
+#[cycle(alone)]
+pub(crate) fn is_alone(graph: &Graph, pattern: &Pattern, depth: u8, s: u8, n: u32) -> bool
+    requires { s < length pattern.now.slots }
+    ensures { IsTrue result ↔ ArePaired graph.now pattern.now depth s n n }
+{
+    if !is_here(graph, pattern, s, n) {
+        return false;
+    }
+    if depth == 0 {
+        return true;
+    }
+    for place in 0..edge_count(pattern) {
+        let edge = edge_at(pattern, place);
+        if !is_alone_forth(graph, pattern, depth - 1, edge, s, n) {
+            return false;
+        }
+        if !is_alone_back(graph, pattern, depth - 1, edge, s, n) {
+            return false;
+        }
+    }
+    true
+}
+
+/// Whether it is along an edge, if that begins at the slot.
+#[cycle(alone)]
+fn is_alone_forth(graph: &Graph, pattern: &Pattern, depth: u8, edge: Edge, s: u8, n: u32) -> bool
+    requires { edge.to < length pattern.now.slots }
+    ensures { IsTrue result ↔ ArePairedForth graph.now pattern.now depth edge s n n }
+{
+    if edge.from != s {
+        return true;
+    }
+    has_alone(graph, pattern, depth, edge.to, graph.outgoing(n, edge.pred))
+}
+
+/// Whether it is along an edge, if that ends at the slot.
+#[cycle(alone)]
+fn is_alone_back(graph: &Graph, pattern: &Pattern, depth: u8, edge: Edge, s: u8, n: u32) -> bool
+    requires { edge.from < length pattern.now.slots }
+    ensures { IsTrue result ↔ ArePairedBack graph.now pattern.now depth edge s n n }
+{
+    if edge.to != s {
+        return true;
+    }
+    has_alone(
+        graph,
+        pattern,
+        depth,
+        edge.from,
+        graph.incoming(n, edge.pred),
+    )
+}
+
+/// Whether some name of a list is paired with itself.
+#[cycle(alone)]
+pub(crate) fn has_alone(graph: &Graph, pattern: &Pattern, depth: u8, s: u8, names: &[u32]) -> bool
+    requires { s < length pattern.now.slots }
+    ensures { IsTrue result ↔ HasAlone graph.now pattern.now depth s names.now }
+{
+    for n in names {
+        if is_alone(graph, pattern, depth, s, *n) {
+            return true;
+        }
+    }
+    false
+}
+
+/// Whether a name of a list that is in another one, too, is paired with itself.
+fn has_alone_among(
+    graph: &Graph,
+    pattern: &Pattern,
+    depth: u8,
+    s: u8,
+    names: &[u32],
+    others: &[u32],
+) -> bool
+    requires slot { s < length pattern.now.slots }
+    requires ascending { IsStrictlyIncreasing others.now }
+    ensures { IsTrue result ↔ HaveCommon graph.now pattern.now depth s names.now others.now }
+{
+    for n in names {
+        if !holds(others, *n) {
+            continue;
+        }
+        if is_alone(graph, pattern, depth, s, *n) {
+            return true;
+        }
+    }
+    false
+}
+
+/// Whether a name that both lists have is paired with itself. The shorter list is gone through, the longer one searched.
+pub(crate) fn have_common(
+    graph: &Graph,
+    pattern: &Pattern,
+    depth: u8,
+    s: u8,
+    us: &[u32],
+    ws: &[u32],
+) -> bool
+    requires slot { s < length pattern.now.slots }
+    requires left { IsStrictlyIncreasing us.now }
+    requires right { IsStrictlyIncreasing ws.now }
+    ensures { IsTrue result ↔ HaveCommon graph.now pattern.now depth s us.now ws.now }
+{
+    if us.len() <= ws.len() {
+        has_alone_among(graph, pattern, depth, s, us, ws)
+    } else {
+        has_alone_among(graph, pattern, depth, s, ws, us)
+    }
+}
+
+/// Whether both lists have a constant, and it is paired with itself.
+pub(crate) fn have_constant(
+    graph: &Graph,
+    pattern: &Pattern,
+    depth: u8,
+    s: u8,
+    c: u32,
+    us: &[u32],
+    ws: &[u32],
+) -> bool
+    requires slot { s < length pattern.now.slots }
+    requires left { IsStrictlyIncreasing us.now }
+    requires right { IsStrictlyIncreasing ws.now }
+    ensures { IsTrue result ↔ (Contains us.now c × Contains ws.now c × ArePaired graph.now pattern.now depth s c c) }
+{
+    if !holds(us, c) || !holds(ws, c) {
+        return false;
+    }
+    is_alone(graph, pattern, depth, s, c)
+}

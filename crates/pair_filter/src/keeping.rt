@@ -1,0 +1,83 @@
+//! Which candidate pairs are left.
+
+ghost use Rattle.std.specs.Prelude.{◌≡◌, ◌↔◌, ℕ, Contains, IfOk, IsTrue};
+ghost use Rattle.chase_laws.specs.Candidate.{AreAscending};
+ghost use Rattle.chase_laws.specs.Chase.{IsAble};
+ghost use Rattle.chase_laws.specs.Pairing.{ArePairedBy};
+ghost use Rattle.pair_filter.specs.Along.{ArePairedUnder};
+ghost use Rattle.pair_filter.specs.Selection.{IsSelection};
+
+use crate::paired::are_paired;
+use chase_laws::Pattern;
+use chase_laws::laws::law_paired;
+use gk_base::NoMemory;
+use std::alloc::Global;
+use std::thread::Threads;
+use typed_graph::Graph;
+
+/// How many edges away from its two names a pair is looked at.
+const DEPTH: u8 = 2;
+
+/// Whether a key pairs two names to depth 2.
+fn is_left_by(graph: &Graph, pattern: &Pattern, a: u32, b: u32) -> bool
+    ensures { IsTrue result ↔ ArePairedUnder graph.now pattern.now a b }
+{
+    // A fact for the proof: slot 0 is an entity variable.
+    let _ = pattern.designated_type();
+    are_paired(graph, pattern, DEPTH, 0, a, b)
+}
+
+/// Whether some key does.
+fn is_left(graph: &Graph, patterns: &[Pattern], pair: (u32, u32)) -> bool
+    ensures { IsTrue result ↔ ArePairedBy graph.now patterns.now 2 pair.0 pair.1 }
+{
+    for pattern in patterns {
+        if is_left_by(graph, pattern, pair.0, pair.1) {
+            return true;
+        }
+    }
+    false
+}
+
+/// Those of some pairs that are left, in order, on the caller's thread.
+fn keep_alone(
+    alloc: Global,
+    graph: &Graph,
+    patterns: &[Pattern],
+    pairs: &[(u32, u32)],
+) -> Result<Vec<(u32, u32)>, NoMemory>
+    ensures { IfOk result (λ v. IsSelection (λ x. ArePairedBy graph.now patterns.now 2 x.0 x.1) pairs.now v.items) }
+{
+    let mut left = Vec::new(alloc);
+    for pair in pairs {
+        if !is_left(graph, patterns, *pair) {
+            continue;
+        }
+        left.push(*pair)?;
+    }
+    Ok(left)
+}
+
+/// Of some pairs, in their order, exactly those that some key pairs to depth 2: it designates a type of both names, and for
+/// each of its edges at slot 0 rows lead from them to two names that are fit for the edge's other end, can go together there,
+/// and for each edge there have such rows again. A pair that a step can identify, whatever else is the same, stays.
+///
+/// Fails only for want of memory. The answer is the same whatever the number of threads.
+pub fn keep<R: Threads + Sync>(
+    rt: &R,
+    alloc: Global,
+    graph: &Graph,
+    patterns: &[Pattern],
+    pairs: &[(u32, u32)],
+) -> Result<Vec<(u32, u32)>, NoMemory>
+    ensures left { IfOk result (λ v. IsSelection (λ x. ArePairedBy graph.now patterns.now 2 x.0 x.1) pairs.now v.items) }
+    ensures exact { IfOk result (λ v. (a b : ℕ) → Contains v.items (a, b) ↔ (Contains pairs.now (a, b) × ArePairedBy graph.now patterns.now 2 a b)) }
+    ensures able { IfOk result (λ v. (a b : ℕ) → IsAble graph.now patterns.now a b → Contains pairs.now (a, b) → Contains v.items (a, b)) }
+    ensures ascending { IfOk result (λ v. AreAscending pairs.now → AreAscending v.items) }
+{
+    // A fact for the proof: able pairs are paired.
+    law_paired();
+    let _ = rt;
+    let left = keep_alone(alloc, graph, patterns, pairs)?;
+    Ok(left)
+}

@@ -1,0 +1,244 @@
+//! Whether a key pairs two names: edge by edge, down to a depth.
+
+ghost use Rattle.std.specs.Prelude.{◌≡◌, ◌<◌, ◌↔◌, Contains, IsTrue, IfSome, length};
+ghost use Rattle.std.specs.List.Sorted.{IsStrictlyIncreasing};
+ghost use Rattle.chase_laws.specs.Pairing.{ArePaired};
+ghost use Rattle.pair_filter.specs.Along.{ArePairedForth, ArePairedBack, HavePaired, HasPartner, HaveCommonPartner, IsValueEdge};
+
+use crate::alone::{has_alone, have_common, have_constant, is_alone};
+use crate::here::are_here;
+use crate::parts::{edge_at, edge_count, slot_at};
+use chase_laws::{Edge, Pattern, Slot};
+use typed_graph::Graph;
+use typed_graph::ascending::holds;
+
+/// Whether two names are paired to a depth at slot `s`.
+#[cycle(paired)]
+pub(crate) fn are_paired(graph: &Graph, pattern: &Pattern, depth: u8, s: u8, u: u32, w: u32) -> bool
+    requires { s < length pattern.now.slots }
+    ensures { IsTrue result ↔ ArePaired graph.now pattern.now depth s u w }
+{
+    if !are_here(graph, pattern, s, u, w) {
+        return false;
+    }
+    if depth == 0 {
+        return true;
+    }
+    for place in 0..edge_count(pattern) {
+        let edge = edge_at(pattern, place);
+        if !are_paired_forth(graph, pattern, depth - 1, edge, s, u, w) {
+            return false;
+        }
+        if !are_paired_back(graph, pattern, depth - 1, edge, s, u, w) {
+            return false;
+        }
+    }
+    true
+}
+
+/// Whether they are along an edge, if that begins at the slot.
+#[cycle(paired)]
+fn are_paired_forth(
+    graph: &Graph,
+    pattern: &Pattern,
+    depth: u8,
+    edge: Edge,
+    s: u8,
+    u: u32,
+    w: u32,
+) -> bool
+    requires { edge.to < length pattern.now.slots }
+    ensures { IsTrue result ↔ ArePairedForth graph.now pattern.now depth edge s u w }
+{
+    if edge.from != s {
+        return true;
+    }
+    let us = graph.outgoing(u, edge.pred);
+    let ws = graph.outgoing(w, edge.pred);
+    have_paired(graph, pattern, depth, edge.to, us, ws)
+}
+
+/// Whether they are along an edge, if that ends at the slot.
+#[cycle(paired)]
+fn are_paired_back(
+    graph: &Graph,
+    pattern: &Pattern,
+    depth: u8,
+    edge: Edge,
+    s: u8,
+    u: u32,
+    w: u32,
+) -> bool
+    requires { edge.from < length pattern.now.slots }
+    ensures { IsTrue result ↔ ArePairedBack graph.now pattern.now depth edge s u w }
+{
+    if edge.to != s {
+        return true;
+    }
+    let us = graph.incoming(u, edge.pred);
+    let ws = graph.incoming(w, edge.pred);
+    have_paired(graph, pattern, depth, edge.from, us, ws)
+}
+
+/// Whether a name of one list and a name of another are paired. At a value variable the two are one name, at a constant
+/// they are the constant.
+#[cycle(paired)]
+fn have_paired(graph: &Graph, pattern: &Pattern, depth: u8, s: u8, us: &[u32], ws: &[u32]) -> bool
+    requires slot { s < length pattern.now.slots }
+    requires left { IsStrictlyIncreasing us.now }
+    requires right { IsStrictlyIncreasing ws.now }
+    ensures { IsTrue result ↔ HavePaired graph.now pattern.now depth s us.now ws.now }
+{
+    match slot_at(pattern, s) {
+        Slot::Value => have_common(graph, pattern, depth, s, us, ws),
+        Slot::Fixed(c) => have_constant(graph, pattern, depth, s, c, us, ws),
+        Slot::Entity(_) | Slot::Any(_) | Slot::Folded => {
+            have_any_paired(graph, pattern, depth, s, us, ws)
+        }
+    }
+}
+
+/// Whether there are such two, whatever stands at the slot. Names that are not even paired with themselves are passed over.
+#[cycle(paired)]
+fn have_any_paired(
+    graph: &Graph,
+    pattern: &Pattern,
+    depth: u8,
+    s: u8,
+    us: &[u32],
+    ws: &[u32],
+) -> bool
+    requires slot { s < length pattern.now.slots }
+    requires right { IsStrictlyIncreasing ws.now }
+    ensures { IsTrue result ↔ HavePaired graph.now pattern.now depth s us.now ws.now }
+{
+    if !has_alone(graph, pattern, depth, s, ws) {
+        return false;
+    }
+    for u in us {
+        if !is_alone(graph, pattern, depth, s, *u) {
+            continue;
+        }
+        if has_partner(graph, pattern, depth, s, *u, ws) {
+            return true;
+        }
+    }
+    false
+}
+
+/// Whether some name of a list is paired with `u`. Where an edge leads from the slot to a value variable, only names that
+/// share a value with `u` are looked at.
+#[cycle(paired)]
+fn has_partner(graph: &Graph, pattern: &Pattern, depth: u8, s: u8, u: u32, ws: &[u32]) -> bool
+    requires slot { s < length pattern.now.slots }
+    requires right { IsStrictlyIncreasing ws.now }
+    ensures { IsTrue result ↔ HasPartner graph.now pattern.now depth s u ws.now }
+{
+    if depth == 0 {
+        return has_partner_in(graph, pattern, depth, s, u, ws);
+    }
+    match value_edge(pattern, s) {
+        Some(edge) => has_partner_by(graph, pattern, depth, s, u, ws, edge),
+        None => has_partner_in(graph, pattern, depth, s, u, ws),
+    }
+}
+
+/// Whether one of them is, each of them being looked at.
+#[cycle(paired)]
+fn has_partner_in(graph: &Graph, pattern: &Pattern, depth: u8, s: u8, u: u32, ws: &[u32]) -> bool
+    requires { s < length pattern.now.slots }
+    ensures { IsTrue result ↔ HasPartner graph.now pattern.now depth s u ws.now }
+{
+    for w in ws {
+        if are_paired(graph, pattern, depth, s, u, *w) {
+            return true;
+        }
+    }
+    false
+}
+
+/// Whether one of them is, found by the values that it shares with `u` along an edge to a value variable.
+#[cycle(paired)]
+fn has_partner_by(
+    graph: &Graph,
+    pattern: &Pattern,
+    depth: u8,
+    s: u8,
+    u: u32,
+    ws: &[u32],
+    edge: Edge,
+) -> bool
+    requires slot { s < length pattern.now.slots }
+    requires depth { 0 < depth }
+    requires right { IsStrictlyIncreasing ws.now }
+    requires edge { IsValueEdge pattern.now s edge }
+    ensures { IsTrue result ↔ HasPartner graph.now pattern.now depth s u ws.now }
+{
+    for l in graph.outgoing(u, edge.pred) {
+        let holders = graph.incoming(*l, edge.pred);
+        if holders.len() > ws.len() {
+            if has_partner_among(graph, pattern, depth, s, u, ws, holders) {
+                return true;
+            }
+            continue;
+        }
+        if has_partner_among(graph, pattern, depth, s, u, holders, ws) {
+            return true;
+        }
+    }
+    false
+}
+
+/// Whether a name of a list that is in another one, too, is paired with `u`.
+#[cycle(paired)]
+fn has_partner_among(
+    graph: &Graph,
+    pattern: &Pattern,
+    depth: u8,
+    s: u8,
+    u: u32,
+    names: &[u32],
+    others: &[u32],
+) -> bool
+    requires slot { s < length pattern.now.slots }
+    requires ascending { IsStrictlyIncreasing others.now }
+    ensures { IsTrue result ↔ HaveCommonPartner graph.now pattern.now depth s u names.now others.now }
+{
+    for w in names {
+        if !holds(others, *w) {
+            continue;
+        }
+        if are_paired(graph, pattern, depth, s, u, *w) {
+            return true;
+        }
+    }
+    false
+}
+
+/// An edge from slot `s` to a value variable, if there is one.
+fn value_edge(pattern: &Pattern, s: u8) -> Option<Edge>
+    ensures { IfSome result (λ edge. IsValueEdge pattern.now s edge) }
+{
+    for place in 0..edge_count(pattern) {
+        let edge = edge_at(pattern, place);
+        if is_value_edge(pattern, s, edge) {
+            return Some(edge);
+        }
+    }
+    None
+}
+
+/// Whether an edge is one.
+fn is_value_edge(pattern: &Pattern, s: u8, edge: Edge) -> bool
+    requires edge { Contains pattern.now.edges edge }
+    requires to { edge.to < length pattern.now.slots }
+    ensures { IsTrue result → IsValueEdge pattern.now s edge }
+{
+    if edge.from != s {
+        return false;
+    }
+    match slot_at(pattern, edge.to) {
+        Slot::Value => true,
+        Slot::Entity(_) | Slot::Any(_) | Slot::Folded | Slot::Fixed(_) => false,
+    }
+}
