@@ -11,9 +11,14 @@ use crate::paired::are_paired;
 use chase_laws::Pattern;
 use chase_laws::laws::law_paired;
 use gk_base::NoMemory;
-use std::alloc::Global;
+use rayon::current_num_threads;
+use rayon::prelude::*;
+use std::alloc::{AllocError, Global};
 use std::thread::Threads;
 use typed_graph::Graph;
+
+/// Below so many pairs a thread costs more than it saves.
+const FEW: usize = 2048;
 
 /// How many edges away from its two names a pair is looked at.
 const DEPTH: u8 = 2;
@@ -58,6 +63,45 @@ fn keep_alone(
     Ok(left)
 }
 
+/// The same, where the pairs are cut into pieces, a thread filters each, and what they leave is joined in order. Where a
+/// thread can't be started the caller does its work.
+fn keep_in_pieces<R: Threads + Sync>(
+    rt: &R,
+    alloc: Global,
+    graph: &Graph,
+    patterns: &[Pattern],
+    pairs: &[(u32, u32)],
+) -> Result<Vec<(u32, u32)>, AllocError>
+    ensures { IfOk result (λ v. IsSelection (λ x. ArePairedBy graph.now patterns.now 2 x.0 x.1) pairs.now v.items) }
+{
+    pairs
+        .par_iter()
+        .copied()
+        .filter(
+            |pair: &(u32, u32)| -> bool
+                ensures { IsTrue result ↔ ArePairedBy graph.entry.now patterns.entry.now 2 pair.now.0 pair.now.1 }
+            { is_left(graph, patterns, *pair) },
+        )
+        .collect(rt, alloc)
+}
+
+/// The same, on the caller's thread where more would not serve.
+fn select<R: Threads + Sync>(
+    rt: &R,
+    alloc: Global,
+    graph: &Graph,
+    patterns: &[Pattern],
+    pairs: &[(u32, u32)],
+) -> Result<Vec<(u32, u32)>, NoMemory>
+    ensures { IfOk result (λ v. IsSelection (λ x. ArePairedBy graph.now patterns.now 2 x.0 x.1) pairs.now v.items) }
+{
+    if pairs.len() < FEW || current_num_threads(rt) == 1 {
+        return keep_alone(alloc, graph, patterns, pairs);
+    }
+    let left = keep_in_pieces(rt, alloc, graph, patterns, pairs)?;
+    Ok(left)
+}
+
 /// Of some pairs, in their order, exactly those that some key pairs to depth 2: it designates a type of both names, and for
 /// each of its edges at slot 0 rows lead from them to two names that are fit for the edge's other end, can go together there,
 /// and for each edge there have such rows again. A pair that a step can identify, whatever else is the same, stays.
@@ -77,7 +121,6 @@ pub fn keep<R: Threads + Sync>(
 {
     // A fact for the proof: able pairs are paired.
     law_paired();
-    let _ = rt;
-    let left = keep_alone(alloc, graph, patterns, pairs)?;
+    let left = select(rt, alloc, graph, patterns, pairs)?;
     Ok(left)
 }
