@@ -1,6 +1,7 @@
-//! Tests of graphs, plans, near lists, searches and candidate pairs, over the graphs and patterns of `fixtures`. They stand
+//! Tests of graphs, plans, near lists, searches and candidate pairs with their filter, over the graphs and patterns of `fixtures`. They stand
 //! in a crate of their own, since a crate with tests is proved twice.
 //!
+//! - `filtering`: which candidate pairs a filter keeps
 //! - `graphs`: a graph and its look-ups
 //! - `nearness`: what is near to what
 //! - `plans`: in which order a search goes through slots
@@ -8,6 +9,8 @@
 //! - `seeding`: which pairs are candidates
 #![tactic(auto)]
 
+#[cfg(test)]
+mod filtering;
 #[cfg(test)]
 mod graphs;
 #[cfg(test)]

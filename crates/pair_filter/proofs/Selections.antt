@@ -1,4 +1,4 @@
--- What is left of pairs of which those with a property are left.
+-- What is kept of pairs of which those with a property are kept.
 use Rattle.std.proofs.Common.{List, [], ◌∷◌, ◌++◌, ℕ, zero, suc, Bool, true, false, All, Contains, get_or, length, ◌≡◌, ◌<◌, ◌↔◌, ◌⊎◌, inl, inr, refl, sym, ap, subst, ◌∙◌, true≢false, arith}
 use Rattle.std.specs.List.{AllPairs, AllZip}
 use Rattle.std.proofs.lemmas.List.Elements.{All-cons, All-nil, All-contains, Contains-append_left, Contains-append_right, Contains-append_cases}
@@ -8,7 +8,7 @@ use Rattle.chase_laws.specs.Candidate.{AreAscending}
 use Rattle.pair_filter.specs.Selection.{IsSelection}
 
 module _ (P : ℕ × ℕ → Type 0) where
-  -- a pair more, which is left
+  -- a pair more, which is kept
   pub selection_push : (xs ys : List (ℕ × ℕ)) (x : ℕ × ℕ) → IsSelection P xs ys → P x → IsSelection P (xs ++ x ∷ []) (ys ++ x ∷ [])
   selection_push [] ys x h p = rw h (inl ([], p, refl, refl))
   selection_push (y ∷ xs) ys x h p = elim h [
@@ -39,7 +39,7 @@ module _ (P : ℕ × ℕ → Type 0) where
     | inr there ↦ inr there
   ]
 
-  -- what is left was there, and has the property
+  -- what is kept was there, and has the property
   pub selection_only : (xs ys : List (ℕ × ℕ)) → IsSelection P xs ys → (x : ℕ × ℕ) → Contains ys x → Contains xs x × P x
   selection_only [] ys h x c = absurd (nothing_in x (subst (λ l. Contains l x) h c))
   selection_only (y ∷ xs) ys h x c = elim h [
@@ -50,7 +50,7 @@ module _ (P : ℕ × ℕ → Type 0) where
     | inr r ↦ (let s = selection_only xs ys r.1 x c in (behind x y xs s.0, s.1))
   ]
 
-  -- what was there and has the property is left
+  -- what was there and has the property is kept
   pub selection_every : (xs ys : List (ℕ × ℕ)) → IsSelection P xs ys → (x : ℕ × ℕ) → Contains xs x → P x → Contains ys x
   selection_every [] ys h x c p = absurd (nothing_in x c)
   selection_every (y ∷ xs) ys h x c p = elim h [
@@ -64,7 +64,7 @@ module _ (P : ℕ × ℕ → Type 0) where
     ]
   ]
 
-  -- what holds of all holds of what is left
+  -- what holds of all holds of what is kept
   selection_all : (R : ℕ × ℕ → Type 0) (xs ys : List (ℕ × ℕ)) → IsSelection P xs ys → All R xs → All R ys
   selection_all R [] ys h all = rw h (All-nil R)
   selection_all R (y ∷ xs) ys h all =
@@ -88,7 +88,7 @@ module _ (P : ℕ × ℕ → Type 0) where
   pub selection_ascending : (xs ys : List (ℕ × ℕ)) → IsSelection P xs ys → AreAscending xs → AreAscending ys
   selection_ascending xs ys h up = selection_pairs (λ x y. (x.0 < y.0) ⊎ ((x.0 ≡ y.0) × (x.1 < y.1))) xs ys h up
 
-  -- what a filter leaves, by the answers of its test
+  -- what a filter keeps, by the answers of its test
   pub selection_mask : (xs : List (ℕ × ℕ)) (bs : List Bool) → AllZip (λ x b. (b ≡ true) ↔ P x) xs bs → IsSelection P xs (filter_by_mask xs bs)
   selection_mask [] bs h = refl
   selection_mask (x ∷ xs) [] h = absurd h

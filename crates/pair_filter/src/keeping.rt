@@ -1,4 +1,4 @@
-//! Which candidate pairs are left.
+//! Which candidate pairs are kept.
 
 ghost use Rattle.std.specs.Prelude.{◌≡◌, ◌↔◌, ℕ, Contains, IfOk, IsTrue};
 ghost use Rattle.chase_laws.specs.Candidate.{AreAscending};
@@ -24,7 +24,7 @@ const FEW: usize = 2048;
 const DEPTH: u8 = 2;
 
 /// Whether a key pairs two names to depth 2.
-fn is_left_by(graph: &Graph, pattern: &Pattern, a: u32, b: u32) -> bool
+fn is_kept_by(graph: &Graph, pattern: &Pattern, a: u32, b: u32) -> bool
     ensures { IsTrue result ↔ ArePairedUnder graph.now pattern.now a b }
 {
     // A fact for the proof: slot 0 is an entity variable.
@@ -33,18 +33,18 @@ fn is_left_by(graph: &Graph, pattern: &Pattern, a: u32, b: u32) -> bool
 }
 
 /// Whether some key does.
-fn is_left(graph: &Graph, patterns: &[Pattern], pair: (u32, u32)) -> bool
+fn is_kept(graph: &Graph, patterns: &[Pattern], pair: (u32, u32)) -> bool
     ensures { IsTrue result ↔ ArePairedBy graph.now patterns.now 2 pair.0 pair.1 }
 {
     for pattern in patterns {
-        if is_left_by(graph, pattern, pair.0, pair.1) {
+        if is_kept_by(graph, pattern, pair.0, pair.1) {
             return true;
         }
     }
     false
 }
 
-/// Those of some pairs that are left, in order, on the caller's thread.
+/// Those of some pairs that are kept, in order, on the caller's thread.
 fn keep_alone(
     alloc: Global,
     graph: &Graph,
@@ -53,17 +53,17 @@ fn keep_alone(
 ) -> Result<Vec<(u32, u32)>, NoMemory>
     ensures { IfOk result (λ v. IsSelection (λ x. ArePairedBy graph.now patterns.now 2 x.0 x.1) pairs.now v.items) }
 {
-    let mut left = Vec::new(alloc);
+    let mut kept = Vec::new(alloc);
     for pair in pairs {
-        if !is_left(graph, patterns, *pair) {
+        if !is_kept(graph, patterns, *pair) {
             continue;
         }
-        left.push(*pair)?;
+        kept.push(*pair)?;
     }
-    Ok(left)
+    Ok(kept)
 }
 
-/// The same, where the pairs are cut into pieces, a thread filters each, and what they leave is joined in order. Where a
+/// The same, where the pairs are cut into pieces, a thread filters each, and what is kept of each is joined in order. Where a
 /// thread can't be started the caller does its work.
 fn keep_in_pieces<R: Threads + Sync>(
     rt: &R,
@@ -80,7 +80,7 @@ fn keep_in_pieces<R: Threads + Sync>(
         .filter(
             |pair: &(u32, u32)| -> bool
                 ensures { IsTrue result ↔ ArePairedBy graph.entry.now patterns.entry.now 2 pair.now.0 pair.now.1 }
-            { is_left(graph, patterns, *pair) },
+            { is_kept(graph, patterns, *pair) },
         )
         .collect(rt, alloc)
 }
@@ -98,8 +98,8 @@ fn select<R: Threads + Sync>(
     if pairs.len() < FEW || current_num_threads(rt) == 1 {
         return keep_alone(alloc, graph, patterns, pairs);
     }
-    let left = keep_in_pieces(rt, alloc, graph, patterns, pairs)?;
-    Ok(left)
+    let kept = keep_in_pieces(rt, alloc, graph, patterns, pairs)?;
+    Ok(kept)
 }
 
 /// Of some pairs, in their order, exactly those that some key pairs to depth 2: it designates a type of both names, and for
@@ -114,13 +114,13 @@ pub fn keep<R: Threads + Sync>(
     patterns: &[Pattern],
     pairs: &[(u32, u32)],
 ) -> Result<Vec<(u32, u32)>, NoMemory>
-    ensures left { IfOk result (λ v. IsSelection (λ x. ArePairedBy graph.now patterns.now 2 x.0 x.1) pairs.now v.items) }
+    ensures kept { IfOk result (λ v. IsSelection (λ x. ArePairedBy graph.now patterns.now 2 x.0 x.1) pairs.now v.items) }
     ensures exact { IfOk result (λ v. (a b : ℕ) → Contains v.items (a, b) ↔ (Contains pairs.now (a, b) × ArePairedBy graph.now patterns.now 2 a b)) }
     ensures able { IfOk result (λ v. (a b : ℕ) → IsAble graph.now patterns.now a b → Contains pairs.now (a, b) → Contains v.items (a, b)) }
     ensures ascending { IfOk result (λ v. AreAscending pairs.now → AreAscending v.items) }
 {
     // A fact for the proof: able pairs are paired.
     law_paired();
-    let left = select(rt, alloc, graph, patterns, pairs)?;
-    Ok(left)
+    let kept = select(rt, alloc, graph, patterns, pairs)?;
+    Ok(kept)
 }

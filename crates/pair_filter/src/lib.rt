@@ -1,9 +1,9 @@
-//! Rules out candidate pairs without a search. `keep` leaves those that some key pairs to depth 2: the two names are fit for
+//! Rules out candidate pairs without a search. `keep` keeps those that some key pairs to depth 2: the two names are fit for
 //! its first slot, and as far as two of its edges lead, the graph has for each edge rows whose ends can go together. Every
 //! pair that a step can identify is among them. The pairs are cut into pieces, each piece is filtered in a thread of its
-//! own, and what they leave is joined in order; so the answer is the same whatever the number of threads.
+//! own, and what is kept of each is joined in order; so the answer is the same whatever the number of threads.
 //!
-//! - `keeping`: which pairs are left
+//! - `keeping`: which pairs are kept
 //! - `paired`: whether a key pairs two names
 //! - `alone`: whether a key pairs a name with itself, which it does wherever it pairs it with any
 //! - `here`: whether two names can go together at a slot
