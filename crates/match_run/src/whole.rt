@@ -13,6 +13,7 @@ use gk_base::NoMemory;
 use pair_seed::SeedStop;
 use paired_search::View;
 use std::alloc::Global;
+use std::thread::Threads;
 use typed_graph::Graph;
 
 /// The labels of a chase over this setup.
@@ -28,7 +29,8 @@ fn labels_of(alloc: Global, setup: &Setup) -> Result<Vec<u32>, NoMemory>
 /// One label for each name, equal exactly where the chase makes two names the same.
 ///
 /// `TooManyPairs` comes exactly where there are more candidate pairs than `limit`, and `NoMemory` where memory ran out.
-pub fn classes(
+pub fn classes<R: Threads + Sync>(
+    rt: &R,
     alloc: Global,
     graph: Graph,
     patterns: Vec<Pattern>,
@@ -40,6 +42,6 @@ pub fn classes(
     ensures no_more { OnOk result (¬ (HasMoreCandidates graph patterns.items limit)) }
     ensures stop { IfErr result (IsRightStop graph patterns.items limit) }
 {
-    let prepared = prepare(alloc, graph, patterns, limit)?;
+    let prepared = prepare(rt, alloc, graph, patterns, limit)?;
     Ok(labels_of(alloc, &prepared.setup)?)
 }

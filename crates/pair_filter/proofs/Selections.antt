@@ -1,5 +1,5 @@
 -- What is kept of pairs of which those with a property are kept.
-use Rattle.std.proofs.Common.{List, [], ◌∷◌, ◌++◌, ℕ, zero, suc, Bool, true, false, All, Contains, get_or, length, ◌≡◌, ◌<◌, ◌↔◌, ◌⊎◌, inl, inr, refl, sym, ap, subst, ◌∙◌, true≢false, arith}
+use Rattle.std.proofs.Common.{List, [], ◌∷◌, ◌++◌, ℕ, zero, suc, Bool, true, false, All, Contains, get_or, length, ◌≡◌, ◌<◌, ◌≤◌, ◌↔◌, ◌⊎◌, inl, inr, refl, sym, ap, subst, ◌∙◌, true≢false, arith}
 use Rattle.std.specs.List.{AllPairs, AllZip}
 use Rattle.std.proofs.lemmas.List.Elements.{All-cons, All-nil, All-contains, Contains-append_left, Contains-append_right, Contains-append_cases}
 use Rattle.std.proofs.lemmas.List.Kept.{AllPairs-cons}
@@ -94,3 +94,11 @@ module _ (P : ℕ × ℕ → Type 0) where
   selection_mask (x ∷ xs) [] h = absurd h
   selection_mask (x ∷ xs) (true ∷ bs) h = inl (filter_by_mask xs bs, h.0.0 refl, refl, selection_mask xs bs h.1)
   selection_mask (x ∷ xs) (false ∷ bs) h = inr ((λ p. true≢false (sym (h.0.1 p))), selection_mask xs bs h.1)
+
+  -- no more are kept than there were
+  pub selection_length : (xs ys : List (ℕ × ℕ)) → IsSelection P xs ys → length ys ≤ length xs
+  selection_length [] ys h = rw h (omega arith)
+  selection_length (x ∷ xs) ys h = elim h [
+    | inl r ↦ rw r.2 (omega (arith, selection_length xs r.0 r.3))
+    | inr r ↦ omega (arith, selection_length xs ys r.1)
+  ]

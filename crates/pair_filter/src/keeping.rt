@@ -1,6 +1,6 @@
 //! Which candidate pairs are kept.
 
-ghost use Rattle.std.specs.Prelude.{◌≡◌, ◌↔◌, ℕ, Contains, IfOk, IsTrue};
+ghost use Rattle.std.specs.Prelude.{◌≡◌, ◌≤◌, ◌↔◌, ℕ, Contains, IfOk, IsTrue, length};
 ghost use Rattle.chase_laws.specs.Candidate.{AreAscending};
 ghost use Rattle.chase_laws.specs.Chase.{IsAble};
 ghost use Rattle.chase_laws.specs.Pairing.{ArePairedBy};
@@ -117,6 +117,7 @@ pub fn keep<R: Threads + Sync>(
     ensures kept { IfOk result (λ v. IsSelection (λ x. ArePairedBy graph.now patterns.now 2 x.0 x.1) pairs.now v.items) }
     ensures exact { IfOk result (λ v. (a b : ℕ) → Contains v.items (a, b) ↔ (Contains pairs.now (a, b) × ArePairedBy graph.now patterns.now 2 a b)) }
     ensures able { IfOk result (λ v. (a b : ℕ) → IsAble graph.now patterns.now a b → Contains pairs.now (a, b) → Contains v.items (a, b)) }
+    ensures few { IfOk result (λ v. length v.items ≤ length pairs.now) }
     ensures ascending { IfOk result (λ v. AreAscending pairs.now → AreAscending v.items) }
 {
     // A fact for the proof: able pairs are paired.

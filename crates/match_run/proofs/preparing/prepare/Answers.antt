@@ -1,16 +1,45 @@
--- The setup's pairs are the candidates.
-use Rattle.std.proofs.Common.{List, ℕ, Contains, ◌↔◌, ap, sym, subst, arith}
-use Rattle.chase_laws.specs.Candidate.{IsCandidate, IsCandidateCount}
+-- The setup's pairs are the candidates that are paired.
+use Rattle.std.proofs.Common.{List, ℕ, Contains, get_or, length, ◌<◌, ◌↔◌, ap, sym, subst, arith}
+use Rattle.std.proofs.lemmas.List.Elements.{All-contains, Contains-get_or}
+use Rattle.chase_laws.specs.Shape.{Shape}
+use Rattle.chase_laws.specs.Candidate.{IsCandidate, IsCandidateCount, AreAscending}
+use Rattle.chase_laws.specs.Chase.{IsAble}
+use Rattle.chase_laws.specs.Pairing.{ArePairedBy}
 use Rattle.match_run.proofs.preparing.prepare.Goals as goal
 
 pub returns-clause-pairs : goal.returns-clause-pairs
-returns-clause-pairs c =
-    let e = ap (λ t. t.pairs) c.in_ok-setup.ensures in
-    λ a b. subst (λ (ps : List (ℕ × ℕ)). Contains ps (a, b) ↔ IsCandidate c.args.graph c.args.patterns.items a b) (sym e)
-    (subst (λ K. Contains c.in_ok-pairs.pairs.items (a, b) ↔ IsCandidate c.args.graph K a b) c.deref.ensures.value (c.in_ok-pairs.ensures.pairs a b))
+returns-clause-pairs g c = λ a b.
+    let G = c.args.graph in
+    let K = c.args.patterns.items in
+    let cs = c.in_ok-candidates.candidates.items in
+    let ps = c.in_ok-pairs.pairs.items in
+    let found : Contains cs (a, b) ↔ IsCandidate G K a b = subst (λ (k : List Shape). Contains cs (a, b) ↔ IsCandidate G k a b) c.deref.ensures.value (c.in_ok-candidates.ensures.pairs a b) in
+    let kept : Contains ps (a, b) ↔ (Contains cs (a, b) × ArePairedBy G K 2 a b) = subst (λ (k : List Shape). Contains ps (a, b) ↔ (Contains cs (a, b) × ArePairedBy G k 2 a b)) c.deref-2.ensures.value
+    (subst (λ (xs : List (ℕ × ℕ)). Contains ps (a, b) ↔ (Contains xs (a, b) × ArePairedBy G c.deref-2.result.now 2 a b)) c.deref-3.ensures.value (c.in_ok-pairs.ensures.exact a b)) in
+    let both : Contains ps (a, b) ↔ (IsCandidate G K a b × ArePairedBy G K 2 a b) = ((λ h. let k = kept.0 h in (found.0 k.0, k.1)), (λ h. kept.1 (found.1 h.0, h.1))) in
+    subst (λ (xs : List (ℕ × ℕ)). Contains xs (a, b) ↔ (IsCandidate G K a b × ArePairedBy G K 2 a b)) (sym (ap (λ t. t.pairs) c.in_ok-setup.ensures)) both
 
 pub returns-clause-seeded : goal.returns-clause-seeded
-returns-clause-seeded c =
-    let found = c.in_ok-pairs.ensures in
+returns-clause-seeded g c =
+    let found = c.in_ok-candidates.ensures in
     subst (λ K. IsCandidateCount c.args.graph K c.len-seeded.result) c.deref.ensures.value
-    (record { pairs = c.in_ok-pairs.pairs.items; ascending = found.ascending; exact = found.pairs; count = omega (arith, c.len-seeded.ensures, c.in_ok-pairs.pairs.ok.0) })
+    (record { pairs = c.in_ok-candidates.candidates.items; ascending = found.ascending; exact = found.pairs; count = omega (arith, c.len-seeded.ensures, c.in_ok-candidates.candidates.ok.0) })
+
+pub new-requires-clause-ascend : goal.new-requires-clause-ascend
+new-requires-clause-ascend g c = c.in_ok-pairs.ensures.ascending (subst AreAscending (sym c.deref-3.ensures.value) c.in_ok-candidates.ensures.ascending)
+
+pub new-requires-clause-named : goal.new-requires-clause-named
+new-requires-clause-named g c = λ k d lt.
+    let cs = c.in_ok-candidates.candidates.items in
+    let ps = c.in_ok-pairs.pairs.items in
+    let x : ℕ × ℕ = get_or ps k d in
+    let there = ((c.in_ok-pairs.ensures.exact x.0 x.1).0 (Contains-get_or ps k d lt)).0 in
+    All-contains (λ (y : ℕ × ℕ). (y.0 < y.1) × (y.1 < length c.args.graph.literal)) cs x c.in_ok-candidates.ensures.named
+    (subst (λ (xs : List (ℕ × ℕ)). Contains xs x) c.deref-3.ensures.value there)
+
+pub new-requires-clause-able : goal.new-requires-clause-able
+new-requires-clause-able g c = λ a b able.
+    let G = c.args.graph in
+    c.in_ok-pairs.ensures.able a b (subst (λ (k : List Shape). IsAble G k a b) (sym c.deref-2.ensures.value) able)
+    (subst (λ (xs : List (ℕ × ℕ)). Contains xs (a, b)) (sym c.deref-3.ensures.value)
+    (c.in_ok-candidates.ensures.able a b (subst (λ (k : List Shape). IsAble G k a b) (sym c.deref.ensures.value) able)))

@@ -1,6 +1,6 @@
 use Rattle.std.proofs.Common.{ℕ}
 use Rattle.chase_laws.specs.Pairing.{ArePairedBy}
-use Rattle.pair_filter.proofs.Selections.{selection_only, selection_every, selection_ascending}
+use Rattle.pair_filter.proofs.Selections.{selection_only, selection_every, selection_ascending, selection_length}
 use Rattle.pair_filter.proofs.keeping.keep.Goals as goal
 
 pub returns-clause-exact : goal.returns-clause-exact
@@ -21,3 +21,8 @@ pub returns-clause-ascending : goal.returns-clause-ascending
 returns-clause-ascending g c =
     let P : ℕ × ℕ → Type 0 = λ x. ArePairedBy c.args.graph.now c.args.patterns.now 2 x.0 x.1 in
     selection_ascending P c.args.pairs.now c.in_ok-kept.kept.items c.in_ok-kept.ensures
+
+pub returns-clause-few : goal.returns-clause-few
+returns-clause-few g c =
+    let P : ℕ × ℕ → Type 0 = λ x. ArePairedBy c.args.graph.now c.args.patterns.now 2 x.0 x.1 in
+    selection_length P c.args.pairs.now c.in_ok-kept.kept.items c.in_ok-kept.ensures
