@@ -1,5 +1,5 @@
 -- The canonical text of a proof, in version 2, one among those that say it: each term once, in order of first occurrence; single
--- spaces, canonical terms and line feeds (this project's own).
+-- spaces, canonical terms and line feeds. And the proofs whose text can be read again (this project's own).
 use Rattle.std.specs.Prelude.{List, [], ◌∷◌, ◌++◌, ℕ, ◌+◌, ◌^◌, ◌<◌, true, All, map, length, codes, ◌≡◌}
 use Rattle.std.specs.List.{flat_map}
 use Rattle.std.specs.Fmt.{decimal}

@@ -22,8 +22,8 @@ pub fn law_one_proof_answer()
 {}
 
 /// The text that is written of a proof is read as this proof under exactly the limits that the text fits, if the proof can be
-/// read at all. Each proof that a file of fewer than 2 ^ 32 bytes says can be read, and so can each that tells a journal of
-/// fewer entries, where the names can be spelled and the keys have names as in a key file.
+/// read at all. Each proof that a file says under a limit below 2 ^ 32 can be read. So can each that tells a journal of fewer
+/// than 2 ^ 32 entries, where the names are as few and can be spelled, and the keys have names as in a key file.
 pub fn law_proof_read_back()
     ensures back { (limit : ℕ) (steps : List StepShape) → CanBeRead steps →
         (length (proof_text steps) ≤ limit) ↔ ProofSays limit (proof_text steps) (Ok steps) }
