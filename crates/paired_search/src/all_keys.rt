@@ -3,12 +3,11 @@
 ghost use Rattle.std.specs.Prelude.{◌≡◌, ◌<◌, ◌≤◌, ◌^◌, [], ℕ, List, IsTrue, IsFalse, Some, IfSome, IfNone, length, slice_get, slice_index};
 ghost use Rattle.chase_laws.specs.Shape.{Shape};
 ghost use Rattle.chase_laws.specs.Valuation.{IsMatch, Matches};
-ghost use Rattle.chase_laws.specs.View.{same_by};
 ghost use Rattle.key_plan.specs.Route.{IsPlanOf};
 ghost use Rattle.paired_search.specs.Part.{IsPlaced, IsReady};
 ghost use Rattle.paired_search.specs.Plans.{ArePlans};
 
-use crate::View;
+use crate::Sameness;
 use crate::extend::{extend, joins};
 use crate::fits::goes_on;
 use chase_laws::{Pattern, Places};
@@ -25,10 +24,10 @@ pub struct Finding {
 
 /// Whether there are two valuations at `a` and `b` that coincide. The empty lists become such valuations then, in the
 /// order of the plan, and else stay empty.
-fn search_placed(
+fn search_placed<S: Sameness>(
     graph: &Graph,
     plan: &Plan,
-    view: &View,
+    view: &S,
     a: u32,
     b: u32,
     left: &mut Places,
@@ -38,27 +37,17 @@ fn search_placed(
     requires begins { 0 < length plan.now.shape.slots }
     requires empty_left { left.old ≡ [] }
     requires empty_right { right.old ≡ [] }
-    ensures found { IsTrue result → IsMatch graph.now plan.now.shape (same_by view.now.pairs) a b left.new right.new }
-    ensures none { IsFalse result → (v w : List ℕ) → ¬ (IsMatch graph.now plan.now.shape (same_by view.now.pairs) a b v w) }
+    ensures found { IsTrue result → IsMatch graph.now plan.now.shape (S.are_same view.now) a b left.new right.new }
+    ensures none { IsFalse result → (v w : List ℕ) → ¬ (IsMatch graph.now plan.now.shape (S.are_same view.now) a b v w) }
     ensures kept { IsFalse result → (left.new ≡ []) × (right.new ≡ []) }
 {
     let slot = plan.slot(0);
     let block = plan.block(0);
-    if !goes_on(graph, plan, block, block.len(), slot, left, a) {
+    let known = block.len();
+    if !goes_on(graph, plan, block, known, slot, left, a) {
         return false;
     }
-    if !joins(
-        graph,
-        plan,
-        view,
-        block,
-        block.len(),
-        slot,
-        left,
-        right,
-        a,
-        b,
-    ) {
+    if !joins(graph, plan, view, block, known, slot, left, right, a, b) {
         return false;
     }
     left.push(a);
@@ -87,11 +76,11 @@ fn by_slots(plan: &Plan, places: &Places) -> Places
 
 /// Two valuations of one key at `a` and `b` that coincide up to the view; None exactly where there are none. The lists
 /// are empty, and are so again after None.
-fn search_key(
+fn search_key<S: Sameness>(
     graph: &Graph,
     pattern: &Pattern,
     plan: &Plan,
-    view: &View,
+    view: &S,
     a: u32,
     b: u32,
     left: &mut Places,
@@ -100,8 +89,8 @@ fn search_key(
     requires plan { IsPlanOf pattern.now plan.now }
     requires empty_left { left.old ≡ [] }
     requires empty_right { right.old ≡ [] }
-    ensures found { IfSome result (λ f. IsMatch graph.now pattern.now (same_by view.now.pairs) a b f.0 f.1) }
-    ensures none { IfNone result ((v w : List ℕ) → ¬ (IsMatch graph.now pattern.now (same_by view.now.pairs) a b v w)) }
+    ensures found { IfSome result (λ f. IsMatch graph.now pattern.now (S.are_same view.now) a b f.0 f.1) }
+    ensures none { IfNone result ((v w : List ℕ) → ¬ (IsMatch graph.now pattern.now (S.are_same view.now) a b v w)) }
     ensures kept { IfNone result ((left.new ≡ []) × (right.new ≡ [])) }
 {
     // For the proof alone: the pattern is valid.
@@ -112,24 +101,24 @@ fn search_key(
     None
 }
 
-/// Looks for a key with two valuations at `a` and `b` that coincide up to the view, and gives the first key that has
-/// some. None comes exactly where no key has any, whatever numbers `a` and `b` are. The plan at each place has to be
-/// that of the pattern there. It takes no memory.
-pub fn search(
+/// Looks for a key with two valuations at `a` and `b` that coincide up to the names that are the same by the view, and
+/// gives the first key that has some. None comes exactly where no key has any, whatever numbers `a` and `b` are. The
+/// plan at each place has to be that of the pattern there. It takes no memory.
+pub fn search<S: Sameness>(
     graph: &Graph,
     patterns: &[Pattern],
     plans: &[Plan],
     a: u32,
     b: u32,
-    view: &View,
+    view: &S,
 ) -> Option<Finding>
     requires few { length patterns.now < 2 ^ 32 }
     requires plans { ArePlans patterns.now plans.now }
     ensures found { IfSome result (λ f. (Q : Shape) × (slice_get patterns.now f.key ≡ Some Q)
-        × IsMatch graph.now Q (same_by view.now.pairs) a b f.left f.right) }
+        × IsMatch graph.now Q (S.are_same view.now) a b f.left f.right) }
     ensures first { IfSome result (λ f. (k : ℕ) (Q : Shape) (v w : List ℕ) → k < f.key → slice_get patterns.now k ≡ Some Q →
-        ¬ (IsMatch graph.now Q (same_by view.now.pairs) a b v w)) }
-    ensures none { IfNone result (¬ (Matches graph.now patterns.now (same_by view.now.pairs) a b)) }
+        ¬ (IsMatch graph.now Q (S.are_same view.now) a b v w)) }
+    ensures none { IfNone result (¬ (Matches graph.now patterns.now (S.are_same view.now) a b)) }
 {
     let mut left = Places::empty();
     let mut right = Places::empty();

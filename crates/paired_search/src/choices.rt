@@ -4,11 +4,10 @@ ghost use Rattle.std.specs.Prelude.{◌≡◌, ◌≢◌, ◌<◌, ◌++◌, [],
 ghost use Rattle.std.specs.List.Sorted.{IsStrictlyIncreasing};
 ghost use Rattle.chase_laws.specs.declared.pattern.Edge.{Edge};
 ghost use Rattle.chase_laws.specs.Valuation.{FitsSlot, AgreeAt};
-ghost use Rattle.chase_laws.specs.View.{same_by};
 ghost use Rattle.key_plan.specs.Route.{IsProper};
 ghost use Rattle.paired_search.specs.Part.{EdgeHolds, HoldsAt, AreTwins, Covers, CoversFit, IsConstantOf};
 
-use crate::View;
+use crate::Sameness;
 use crate::fits::agree;
 use chase_laws::{Edge, Places, Slot};
 use typed_graph::Graph;
@@ -120,15 +119,15 @@ pub fn sides<'a>(slot: Slot, lefts: &'a [u32], rights: &'a [u32]) -> (&'a [u32],
 }
 
 /// The names from the first one on that agrees with `m` at slot `s`.
-fn agreeing<'a>(
+fn agreeing<'a, S: Sameness>(
     graph: &Graph,
-    view: &View,
+    view: &S,
     s: usize,
     slot: Slot,
     m: u32,
     names: &'a [u32],
 ) -> &'a [u32]
-    ensures all { (n : ℕ) → Contains names.now n → FitsSlot graph.now slot m → FitsSlot graph.now slot n → AgreeAt graph.now (same_by view.now.pairs) s slot m n → Contains result.now n }
+    ensures all { (n : ℕ) → Contains names.now n → FitsSlot graph.now slot m → FitsSlot graph.now slot n → AgreeAt graph.now (S.are_same view.now) s slot m n → Contains result.now n }
     ensures only { (n : ℕ) → Contains result.now n → Contains names.now n }
 {
     for place in 0..names.len() {
@@ -141,9 +140,9 @@ fn agreeing<'a>(
 
 /// The names that are to be tried beside one name at slot `s`: of a value this name alone, where it is among the
 /// others, and else those from the first one on that agrees.
-pub fn partners<'a>(
+pub fn partners<'a, S: Sameness>(
     graph: &Graph,
-    view: &View,
+    view: &S,
     s: usize,
     slot: Slot,
     own: &'a [u32; 1],
@@ -151,7 +150,7 @@ pub fn partners<'a>(
 ) -> &'a [u32]
     requires { IsStrictlyIncreasing others.now }
     ensures all { (n : ℕ) → Contains others.now n → FitsSlot graph.now slot (slice_index own.now 0) → FitsSlot graph.now slot n →
-        AgreeAt graph.now (same_by view.now.pairs) s slot (slice_index own.now 0) n → Contains result.now n }
+        AgreeAt graph.now (S.are_same view.now) s slot (slice_index own.now 0) n → Contains result.now n }
     ensures only { (n : ℕ) → Contains result.now n → Contains others.now n × AreTwins slot (slice_index own.now 0) n }
 {
     match slot {

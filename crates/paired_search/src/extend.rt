@@ -1,11 +1,10 @@
 //! Two valuations, extended slot by slot.
 
 ghost use Rattle.std.specs.Prelude.{◌≡◌, ◌<◌, ◌++◌, [], ◌∷◌, ◌↔◌, List, ℕ, IsTrue, IsFalse, Some, length, slice_get};
-ghost use Rattle.chase_laws.specs.View.{same_by};
 ghost use Rattle.key_plan.specs.Route.{IsBlock};
 ghost use Rattle.paired_search.specs.Part.{HoldsAt, IsPart, IsPair, IsReady, AreCompletedBy};
 
-use crate::View;
+use crate::Sameness;
 use crate::choices::{choices, constant_of, partners, sides};
 use crate::fits::{agree, goes_on};
 use chase_laws::{Edge, Places, Slot};
@@ -14,10 +13,10 @@ use typed_graph::Graph;
 
 /// Whether two lists go on with one more name each, of which the left one is known to do. On the right the edge at place
 /// `known` of the block is known to be a row.
-pub fn joins(
+pub fn joins<S: Sameness>(
     graph: &Graph,
     plan: &Plan,
-    view: &View,
+    view: &S,
     block: &[Edge],
     known: usize,
     slot: Slot,
@@ -26,12 +25,12 @@ pub fn joins(
     m: u32,
     n: u32,
 ) -> bool
-    requires pair { IsPair graph.now plan.now.shape (same_by view.now.pairs) left.now right.now }
+    requires pair { IsPair graph.now plan.now.shape (S.are_same view.now) left.now right.now }
     requires block { IsBlock plan.now.shape (length left.now) block.now }
     requires slot { slice_get plan.now.shape.slots (length left.now) ≡ Some slot }
     requires known { HoldsAt graph.now right.now block.now known n }
     requires left { IsPart graph.now plan.now.shape (left.now ++ m ∷ []) }
-    ensures { IsTrue result ↔ IsPair graph.now plan.now.shape (same_by view.now.pairs) (left.now ++ m ∷ []) (right.now ++ n ∷ []) }
+    ensures { IsTrue result ↔ IsPair graph.now plan.now.shape (S.are_same view.now) (left.now ++ m ∷ []) (right.now ++ n ∷ []) }
 {
     if !agree(graph, view, left.len(), slot, m, n) {
         return false;
@@ -41,18 +40,18 @@ pub fn joins(
 
 /// Whether there are two valuations that coincide and begin with these lists. The lists become such valuations then,
 /// and else are as before.
-pub fn extend(
+pub fn extend<S: Sameness>(
     graph: &Graph,
     plan: &Plan,
-    view: &View,
+    view: &S,
     left: &mut Places,
     right: &mut Places,
 ) -> bool
     requires ready { IsReady plan.now.shape }
     requires begun { 0 < length left.old }
-    requires pair { IsPair graph.now plan.now.shape (same_by view.now.pairs) left.old right.old }
-    ensures found { IsTrue result → AreCompletedBy graph.now plan.now.shape (same_by view.now.pairs) left.old right.old left.new right.new }
-    ensures none { IsFalse result → (v w : List ℕ) → ¬ (AreCompletedBy graph.now plan.now.shape (same_by view.now.pairs) left.old right.old v w) }
+    requires pair { IsPair graph.now plan.now.shape (S.are_same view.now) left.old right.old }
+    ensures found { IsTrue result → AreCompletedBy graph.now plan.now.shape (S.are_same view.now) left.old right.old left.new right.new }
+    ensures none { IsFalse result → (v w : List ℕ) → ¬ (AreCompletedBy graph.now plan.now.shape (S.are_same view.now) left.old right.old v w) }
     ensures kept { IsFalse result → (left.new ≡ left.old) × (right.new ≡ right.old) }
 {
     let s = left.len();

@@ -3,11 +3,10 @@
 ghost use Rattle.std.specs.Prelude.{◌≡◌, ◌≢◌, ◌<◌, ◌≤◌, ◌++◌, [], ◌∷◌, ◌↔◌, ℕ, All, IsTrue, Some, length, slice_get, slice_index};
 ghost use Rattle.chase_laws.specs.Graph.{IsLiteral, AreAlike};
 ghost use Rattle.chase_laws.specs.Valuation.{FitsSlot, AgreeAt};
-ghost use Rattle.chase_laws.specs.View.{same_by};
 ghost use Rattle.key_plan.specs.Route.{IsBlock};
 ghost use Rattle.paired_search.specs.Part.{EdgeHolds, HoldsAt, IsPart};
 
-use crate::View;
+use crate::Sameness;
 use chase_laws::{Edge, Places, Slot};
 use key_plan::Plan;
 use typed_graph::Graph;
@@ -34,9 +33,9 @@ fn are_alike_literals(graph: &Graph, m: u32, n: u32) -> bool
 
 /// Whether two names agree at slot `s`. Whether they are fit for it is not asked, but of folded values, which have to be
 /// literals.
-pub fn agree(graph: &Graph, view: &View, s: usize, slot: Slot, m: u32, n: u32) -> bool
-    ensures yes { IsTrue result → AgreeAt graph.now (same_by view.now.pairs) s slot m n }
-    ensures no { FitsSlot graph.now slot m → FitsSlot graph.now slot n → AgreeAt graph.now (same_by view.now.pairs) s slot m n → IsTrue result }
+pub fn agree<S: Sameness>(graph: &Graph, view: &S, s: usize, slot: Slot, m: u32, n: u32) -> bool
+    ensures yes { IsTrue result → AgreeAt graph.now (S.are_same view.now) s slot m n }
+    ensures no { FitsSlot graph.now slot m → FitsSlot graph.now slot n → AgreeAt graph.now (S.are_same view.now) s slot m n → IsTrue result }
 {
     match slot {
         Slot::Entity(_) => s == 0 || view.same(m, n),

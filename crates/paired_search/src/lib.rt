@@ -1,8 +1,9 @@
 //! The search for one key and two valuations of it, at two given names, that coincide up to what is known to be the
-//! same. What is known is a `View`: names with the labels that they had. The search goes through a key's slots by its
+//! same. What is known is a `Sameness`, as a `View`: names with the labels that they had. The search goes through a key's slots by its
 //! plan and extends both valuations at once, so that what cannot coincide is dropped as soon as it shows; it takes no
 //! memory, and its answer is exact in both directions.
 //!
+//! - `sameness`: what is known to be the same
 //! - `view`: names with their labels
 //! - `planning`: the plans of all keys
 //! - `fits`: what one more name has to be
@@ -16,8 +17,10 @@ mod choices;
 mod extend;
 mod fits;
 mod planning;
+mod sameness;
 mod view;
 
 pub use all_keys::{Finding, search};
 pub use planning::plan_all;
+pub use sameness::Sameness;
 pub use view::View;

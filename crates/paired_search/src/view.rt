@@ -5,6 +5,7 @@ ghost use Rattle.chase_laws.specs.View.{label_in, same_by};
 ghost use Rattle.paired_search.specs.Held.{Ascends};
 ghost use Rattle.paired_search.specs.Kept.{IsCountBelow};
 
+use crate::Sameness;
 use gk_base::NoMemory;
 use std::alloc::Global;
 use std::marker::Model;
@@ -126,5 +127,13 @@ impl View {
             (Some(k), Some(l)) => k == l,
             _ => false,
         }
+    }
+}
+
+impl Sameness for View {
+    ghost are_same = { λ v. same_by v.pairs };
+
+    fn same(&self, m: u32, n: u32) -> bool {
+        View::same(self, m, n)
     }
 }

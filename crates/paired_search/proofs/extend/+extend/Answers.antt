@@ -6,7 +6,6 @@ use Rattle.std.proofs.lemmas.List.Elements.{Contains-get_or}
 use Rattle.std.proofs.Common.{Some, slice_get}
 use Rattle.key_plan.specs.Route.{IsBlock}
 use Rattle.chase_laws.specs.Valuation.{FitsSlot, AgreeAt}
-use Rattle.chase_laws.specs.View.{same_by}
 use Rattle.paired_search.specs.Part.{HoldsAt, IsPart, AreCompletedBy}
 use Rattle.paired_search.proofs.PartLaws.{popped}
 use Rattle.paired_search.proofs.PairLaws.{completes_before, next, none_more, none_left}
@@ -15,7 +14,7 @@ use Rattle.paired_search.proofs.extend.+extend.Goals.{then-joins+else-extend, el
 use Rattle.paired_search.proofs.extend.+extend.Goals.{then-not-is_empty+then-goes_on+else-loop-n-test, else-not-is_empty, else-not-is_empty-via-then-not-is_empty+else-goes_on, else-not-is_empty-via-else-not-is_empty}
 
 pub goes_on-requires-clause-known : goal.goes_on-requires-clause-known
-goes_on-requires-clause-known t c =
+goes_on-requires-clause-known g t c =
     let tried = c.sides.result.0.now in
     let beside = c.partners-beside.result.now in
     let m = get_or tried c.loop-m.m-index 0 in
@@ -25,7 +24,7 @@ goes_on-requires-clause-known t c =
     subst (λ (x : List ℕ). HoldsAt c.args.graph.now x c.block-block.result.now c.choices-lefts.result.place m) (sym c.loop-m.invariant.left) (c.choices-lefts.ensures.holds m both.0)
 
 pub joins-requires-clause-known : goal.joins-requires-clause-known
-joins-requires-clause-known t c =
+joins-requires-clause-known g t c =
     let tried = c.sides.result.0.now in
     let beside = c.partners-beside.result.now in
     let m = get_or tried c.loop-m.m-index 0 in
@@ -35,10 +34,10 @@ joins-requires-clause-known t c =
     subst (λ (x : List ℕ). HoldsAt c.args.graph.now x c.block-block.result.now c.choices-rights.result.place n) (sym c.loop-n.invariant.right) (c.choices-rights.ensures.holds n both.1)
 
 pub returns-then-extend-clause-found : goal.returns-then-extend-clause-found
-returns-then-extend-clause-found t c = λ _.
+returns-then-extend-clause-found g t c = λ _.
     let G = c.args.graph.now in
     let P = c.args.plan.now.shape in
-    let same = same_by c.args.view.now.pairs in
+    let same = g.S.Sameness.are_same c.args.view.now in
     let p = c.args.left.now in
     let q = c.args.right.now in
     let v = c.extend.new.left in
@@ -52,10 +51,10 @@ returns-then-extend-clause-found t c = λ _.
     (subst (λ (y : List ℕ). AreCompletedBy G P same c.push.new.self y v w) longer_right (c.extend.ensures.found c.if-extend.true)))
 
 pub loop-n-preserved : goal.loop-n-preserved
-loop-n-preserved t c =
+loop-n-preserved g t c =
     let G = c.args.graph.now in
     let P = c.args.plan.now.shape in
-    let same = same_by c.args.view.now.pairs in
+    let same = g.S.Sameness.are_same c.args.view.now in
     let p = c.args.left.now in
     let q = c.args.right.now in
     let m = get_or c.sides.result.0.now c.loop-m.m-index 0 in
@@ -83,10 +82,10 @@ loop-n-preserved t c =
     }
 
 pub loop-m-preserved : goal.loop-m-preserved
-loop-m-preserved t c =
+loop-m-preserved g t c =
     let G = c.args.graph.now in
     let P = c.args.plan.now.shape in
-    let same = same_by c.args.view.now.pairs in
+    let same = g.S.Sameness.are_same c.args.view.now in
     let p = c.args.left.now in
     let q = c.args.right.now in
     let slot = c.slot-slot.result in
@@ -127,10 +126,10 @@ loop-m-preserved t c =
     }
 
 pub returns-clause-none : goal.returns-clause-none
-returns-clause-none t c = λ _ v w d.
+returns-clause-none g t c = λ _ v w d.
     let G = c.args.graph.now in
     let P = c.args.plan.now.shape in
-    let same = same_by c.args.view.now.pairs in
+    let same = g.S.Sameness.are_same c.args.view.now in
     let p = c.args.left.now in
     let q = c.args.right.now in
     let tried = c.sides.result.0.now in

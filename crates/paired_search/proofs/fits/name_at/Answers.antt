@@ -1,5 +1,5 @@
 -- A number of the list, or the new one behind it.
-use Rattle.std.proofs.Common.{List, [], ◌∷◌, ◌++◌, ◌≡◌, length, slice_index, sym, ◌∙◌, ap, arith}
+use Rattle.std.proofs.Common.{[], ◌∷◌, ◌++◌, ◌≡◌, length, slice_index, sym, ◌∙◌, ap, arith}
 use Rattle.paired_search.proofs.PartLaws.{front_at, last_at}
 use Rattle.paired_search.proofs.fits.name_at.Goals as goal
 
