@@ -63,24 +63,14 @@ pub fn extend<S: Sameness>(
     let constant = [constant_of(slot)];
     let lefts = choices(graph, block, slot, &constant, left);
     let rights = choices(graph, block, slot, &constant, right);
+    let known = rights.place;
     let (tried, others) = sides(slot, lefts.names, rights.names);
     for m in tried {
         let own = [*m];
         let beside = partners(graph, view, s, slot, &own, others);
         if !beside.is_empty() && goes_on(graph, plan, block, lefts.place, slot, left, *m) {
             for n in beside {
-                if joins(
-                    graph,
-                    plan,
-                    view,
-                    block,
-                    rights.place,
-                    slot,
-                    left,
-                    right,
-                    *m,
-                    *n,
-                ) {
+                if joins(graph, plan, view, block, known, slot, left, right, *m, *n) {
                     left.push(*m);
                     right.push(*n);
                     if extend(graph, plan, view, left, right) {
