@@ -36,7 +36,7 @@ use Rattle.key_file.specs.Numbered.{rdf_type, type_number, names_for, graph_of}
 use Rattle.proof_graph.specs.Tells.{supported_slots as shape_slots}
 use Rattle.proof_graph.specs.Tells.{Tells, TellsAll}
 use Rattle.proof_check.proofs.SameReason.{supported_same}
-use Rattle.proof_check.specs.Verdict.{key_place, supported_variables, has_shape, are_known, is_known, is_end, is_typed, is_triple, has_triple, has_kind, have_kinds, has_image, have_images, is_constant, are_constants, agree, all_agree, asked, reason_at, reason_of, rejected_or, verdict_after, verdict}
+use Rattle.proof_check.specs.Verdict.{key_place, supported_variables, has_shape, are_known, is_known, is_end, is_typed, is_triple, has_triple, has_kind, have_kinds, has_image, have_images, is_constant, are_constants, terms_agree, all_agree, reason_unless, reason_at, reason_of, rejected_or, verdict_after, verdict}
 use Rattle.proof_graph.specs.Tells.{are_earlier, leads_there}
 use Rattle.proof_check.specs.declared.reason.Reason.{Reason}
 use Rattle.proof_check.specs.declared.verdict.Verdict.{Verdict}
@@ -204,7 +204,7 @@ module _ (triples : List Triple) (keys : List KeyShape) (names : List Term) (N :
         cc
 
     module _ (v w : List ℕ) (V : IsValuation G (shape_of names key) v) (W : IsValuation G (shape_of names key) w) (same : ℕ → ℕ → Bool) (C : Coincide G (shape_of names key) same v w) where
-      agrees : (s : ℕ) (slot : KeySlot) → slice_get key.slots s ≡ Some slot → AgreeAt G same s (slot_of names slot) (slice_index v s) (slice_index w s) → agree slot (term_at names (slice_index v s)) (term_at names (slice_index w s)) ≡ true
+      agrees : (s : ℕ) (slot : KeySlot) → slice_get key.slots s ≡ Some slot → AgreeAt G same s (slot_of names slot) (slice_index v s) (slice_index w s) → terms_agree slot (term_at names (slice_index v s)) (term_at names (slice_index w s)) ≡ true
       agrees s (Entity name type) at a = refl
       agrees s (Any name type) at a = refl
       agrees s (Value name) at a = ap (λ n. same_term (term_at names (slice_index v s)) (term_at names n)) (sym a) ∙ same_term-refl (term_at names (slice_index v s))
@@ -214,15 +214,15 @@ module _ (triples : List Triple) (keys : List KeyShape) (names : List Term) (N :
           ∙ same_term-refl (folded_term (term_at names (slice_index v s)))
       agrees s (Fixed c) at a = refl
 
-      agree_each : (s : ℕ) (slot : KeySlot) → slice_get key.slots s ≡ Some slot → agree slot (term_at (map (term_at names) v) s) (term_at (map (term_at names) w) s) ≡ true
+      agree_each : (s : ℕ) (slot : KeySlot) → slice_get key.slots s ≡ Some slot → terms_agree slot (term_at (map (term_at names) v) s) (term_at (map (term_at names) w) s) ≡ true
       agree_each s slot at =
           let h = slice_get_within key.slots s slot at in
-          ap (λ t. agree slot t (term_at (map (term_at names) w) s)) (term_is v V s h) ∙ ap (agree slot (term_at names (slice_index v s))) (term_is w W s h)
+          ap (λ t. terms_agree slot t (term_at (map (term_at names) w) s)) (term_is v V s h) ∙ ap (terms_agree slot (term_at names (slice_index v s))) (term_is w W s h)
           ∙ agrees s slot at (C s (slot_of names slot) (map_at (slot_of names) key.slots s slot at))
 
-    asked_true : (test : Bool) (reason : Reason) (later : Option Reason) → test ≡ true → later ≡ None → asked test reason later ≡ None
-    asked_true true reason later h l = l
-    asked_true false reason later h l = absurd (true≢false (sym h))
+    unless_true : (test : Bool) (reason : Reason) (later : Option Reason) → test ≡ true → later ≡ None → reason_unless test reason later ≡ None
+    unless_true true reason later h l = l
+    unless_true false reason later h l = absurd (true≢false (sym h))
 
     -- there is no reason against a step that tells a chase step
     tells_none : (H : List Entry) (before : List StepShape) (e : Entry) (step : StepShape) → IsMatch G (shape_of names key) (joined_by H) e.a e.b e.left e.right →
@@ -232,20 +232,20 @@ module _ (triples : List Triple) (keys : List KeyShape) (names : List Term) (N :
     tells_none H before e step m left right slots earlier there =
         let cl = length-map e.left (term_at names) in
         let cr = length-map e.right (term_at names) in
-        asked_true _ _ _ (and_from _ _ (and_from _ _
+        unless_true _ _ _ (and_from _ _ (and_from _ _
         (eq-eqb (length step.left) (length key.slots) (ap length left ∙ cl ∙ count e.left m.left))
         (eq-eqb (length step.right) (length key.slots) (ap length right ∙ cr ∙ count e.right m.right)))
         ((bytes_eq-Decides (map (λ (s : SupportShape). s.slot) step.supports) (supported_variables key.slots)).1 slots))
-        (asked_true _ _ _ (and_from _ _ (ap (are_known triples) left ∙ all_known e.left m.left) (ap (are_known triples) right ∙ all_known e.right m.right))
-        (asked_true _ _ _ (and_from _ _ (ap (all_differ same_term) left ∙ differ e.left m.left) (ap (all_differ same_term) right ∙ differ e.right m.right))
-        (asked_true _ _ _ (and_from _ _ (ap (have_kinds triples key) left ∙ kinds e.left m.left) (ap (have_kinds triples key) right ∙ kinds e.right m.right))
-        (asked_true _ _ _ (and_from _ _ (ap (have_images triples key) left ∙ images e.left m.left) (ap (have_images triples key) right ∙ images e.right m.right))
-        (asked_true _ _ _ (and_from _ _ (ap (are_constants key) left ∙ constants e.left m.left) (ap (are_constants key) right ∙ constants e.right m.right))
-        (asked_true _ _ _ (slots_from (λ n slot. agree slot (term_at step.left n) (term_at step.right n)) key.slots (λ s slot at.
-        ap (λ ts. agree slot (term_at ts s) (term_at step.right s)) left ∙ ap (λ ts. agree slot (term_at (map (term_at names) e.left) s) (term_at ts s)) right
+        (unless_true _ _ _ (and_from _ _ (ap (are_known triples) left ∙ all_known e.left m.left) (ap (are_known triples) right ∙ all_known e.right m.right))
+        (unless_true _ _ _ (and_from _ _ (ap (all_differ same_term) left ∙ differ e.left m.left) (ap (all_differ same_term) right ∙ differ e.right m.right))
+        (unless_true _ _ _ (and_from _ _ (ap (have_kinds triples key) left ∙ kinds e.left m.left) (ap (have_kinds triples key) right ∙ kinds e.right m.right))
+        (unless_true _ _ _ (and_from _ _ (ap (have_images triples key) left ∙ images e.left m.left) (ap (have_images triples key) right ∙ images e.right m.right))
+        (unless_true _ _ _ (and_from _ _ (ap (are_constants key) left ∙ constants e.left m.left) (ap (are_constants key) right ∙ constants e.right m.right))
+        (unless_true _ _ _ (slots_from (λ n slot. terms_agree slot (term_at step.left n) (term_at step.right n)) key.slots (λ s slot at.
+        ap (λ ts. terms_agree slot (term_at ts s) (term_at step.right s)) left ∙ ap (λ ts. terms_agree slot (term_at (map (term_at names) e.left) s) (term_at ts s)) right
         ∙ agree_each e.left e.right m.left m.right (joined_by H) m.coincide s slot at))
-        (asked_true _ _ _ (ap (λ n. list_all (are_earlier n) step.supports) (length-map before step_ends) ∙ earlier)
-        (asked_true _ _ _ there refl))))))))
+        (unless_true _ _ _ (ap (λ n. list_all (are_earlier n) step.supports) (length-map before step_ends) ∙ earlier)
+        (unless_true _ _ _ there refl))))))))
 
 -- the key of a step is found by its name
 key_found : (keys : List KeyShape) (k : ℕ) (key : KeyShape) (name : List ℕ) → IsKeyFile keys → slice_get keys k ≡ Some key → name ≡ key.name → key_place keys name ≡ k

@@ -17,7 +17,7 @@ use Rattle.proof_graph.specs.Steps.{term_at}
 use Rattle.proof_check.specs.Verdict.{is_triple, has_triple, is_end, is_known}
 use Rattle.proof_check.specs.NumberVerdict.{has_row}
 use Rattle.proof_check.proofs.ListFacts.{any_found, any_at}
-use Rattle.proof_check.specs.Rows.{number_in, row_of_numbers, row_in, marked, MarksEnds}
+use Rattle.proof_check.specs.Rows.{number_in, row_of_numbers, row_in, with_mark, MarksEnds}
 
 both_ways : (p q : Bool) → (p ≡ true → q ≡ true) → (q ≡ true → p ≡ true) → p ≡ q
 both_ways true q f g = sym (f refl)
@@ -107,7 +107,7 @@ module _ (names : List Term) (distinct : AreDistinct names) where
       or_true true = refl
       or_true false = refl
 
-  marks : (t : Term) (old : List Bool) (o : Option ℕ) → length old ≡ length names → o ≡ number_in names t → Marks names t old (marked old o)
+  marks : (t : Term) (old : List Bool) (o : Option ℕ) → length old ≡ length names → o ≡ number_in names t → Marks names t old (with_mark old o)
   marks t old None count e = marks_none t old (sym e)
   marks t old (Some n) count e = marks_some t old n count (sym e)
 
@@ -210,13 +210,13 @@ known_more triples i t u at = ap (list_any (is_end u)) (next_triple triples i t 
 
 -- the flags of both ends
 pub ends_marked : (names : List Term) (triple : Triple) (old new : List Bool) (s o : Option ℕ) → AreDistinct names → length old ≡ length names →
-    s ≡ number_in names triple.subject → o ≡ number_in names triple.object → new ≡ marked (marked old s) o → MarksEnds names triple old new
+    s ≡ number_in names triple.subject → o ≡ number_in names triple.object → new ≡ with_mark (with_mark old s) o → MarksEnds names triple old new
 ends_marked names triple old new s o distinct count es eo e =
     let first = marks names distinct triple.subject old s count es in
-    let second = marks names distinct triple.object (marked old s) o (first.count ∙ count) eo in
+    let second = marks names distinct triple.object (with_mark old s) o (first.count ∙ count) eo in
     record {
       count = ap length e ∙ second.count ∙ first.count;
-      flags = λ n h.
+      set_or_kept = λ n h.
           let same = ap (λ l. get_or l n false) e in
           same ∙ second.flags n h ∙ ap (λ b. b || same_term (term_at names n) triple.object) (first.flags n h)
           ∙ regroup (get_or old n false) (same_term (term_at names n) triple.subject) (same_term (term_at names n) triple.object);
@@ -226,6 +226,6 @@ ends_marked names triple old new s o distinct count es eo e =
     regroup true b c = refl
     regroup false b c = refl
 
-pub marked_count : (flags : List Bool) (o : Option ℕ) → length (marked flags o) ≡ length flags
-marked_count flags None = refl
-marked_count flags (Some n) = length-set flags n true
+pub with_mark_count : (flags : List Bool) (o : Option ℕ) → length (with_mark flags o) ≡ length flags
+with_mark_count flags None = refl
+with_mark_count flags (Some n) = length-set flags n true

@@ -26,7 +26,7 @@ use Rattle.key_file.specs.Compile.{slot_terms, slot_of, numbered_edge, shape_of}
 use Rattle.proof_graph.specs.Leads.{other_end, end_along, arrives, links_lead}
 use Rattle.proof_graph.specs.Steps.{SupportShape, StepShape, StepNumbers, step_with, term_at}
 use Rattle.key_file.specs.Numbered.{rdf_type}
-use Rattle.proof_check.specs.Verdict.{each_slot, variables_from, supported_variables, has_shape, are_known, is_known, is_typed, has_triple, has_kind, have_kinds, has_image, have_images, is_constant, are_constants, agree, all_agree, asked, reason_at}
+use Rattle.proof_check.specs.Verdict.{each_slot, variables_from, supported_variables, has_shape, are_known, is_known, is_typed, has_triple, has_kind, have_kinds, has_image, have_images, is_constant, are_constants, terms_agree, all_agree, reason_unless, reason_at}
 use Rattle.proof_graph.specs.Tells.{entities_from, supported_slots, are_earlier, places_of, leads_there}
 use Rattle.proof_check.specs.NumberVerdict.{IsLookup, has_row, number_has_kind, number_is_constant, number_is_typed, number_reason, numbers_agree_at, numbers_are_constants, numbers_are_known, numbers_have_images, numbers_have_kinds, numbers_have_shape, numbers_lead_there}
 use Rattle.proof_check.specs.declared.reason.Reason.{Reason}
@@ -34,9 +34,9 @@ use Rattle.proof_check.proofs.ListFacts.{map_at, at_within, get_or-map}
 use Rattle.proof_check.proofs.ToNumbers.{EndsInside}
 
 -- one test more: what comes after it counts only where it holds
-asked_same : (a b : Bool) (reason : Reason) (x y : Option Reason) → a ≡ b → (b ≡ true → x ≡ y) → asked a reason x ≡ asked b reason y
-asked_same a true reason x y e f = ap (λ t. asked t reason x) e ∙ f refl
-asked_same a false reason x y e f = ap (λ t. asked t reason x) e
+unless_same : (a b : Bool) (reason : Reason) (x y : Option Reason) → a ≡ b → (b ≡ true → x ≡ y) → reason_unless a reason x ≡ reason_unless b reason y
+unless_same a true reason x y e f = ap (λ t. reason_unless t reason x) e ∙ f refl
+unless_same a false reason x y e f = ap (λ t. reason_unless t reason x) e
 
 all_same : {X : Type 0} (p q : X → Bool) (xs : List X) → ((k : ℕ) (x : X) → slice_get xs k ≡ Some x → p x ≡ q x) → list_all p xs ≡ list_all q xs
 all_same p q [] h = refl
@@ -154,7 +154,7 @@ module _ (triples : List Triple) (names : List Term) (rows : List (List ℕ)) (k
           let h = slice_get_within key.slots s slot at in
           constant_same s slot (slice_index side s) at (within s h) ∙ ap (is_constant slot) (sym (term_is s h)))
 
-    agree_same : (slot : KeySlot) (a b : ℕ) → a < length names → b < length names → numbers_agree_at names (slot_of names slot) a b ≡ agree slot (term a) (term b)
+    agree_same : (slot : KeySlot) (a b : ℕ) → a < length names → b < length names → numbers_agree_at names (slot_of names slot) a b ≡ terms_agree slot (term a) (term b)
     agree_same (Entity x t) a b ha hb = refl
     agree_same (Any x t) a b ha hb = refl
     agree_same (Value x) a b ha hb = sym (same_number a b ha hb)
@@ -250,7 +250,7 @@ module _ (triples : List Triple) (names : List Term) (rows : List (List ℕ)) (k
       let ql = length-map step.left term in
       let qr = length-map step.right term in
       let qs = length-map key.slots (slot_of names) in
-      asked_same (numbers_have_shape (shape_of names key) step) (has_shape key (step_with names step)) _ _ _
+      unless_same (numbers_have_shape (shape_of names key) step) (has_shape key (step_with names step)) _ _ _
       (λ i. (ap₂ (λ a b. a == b) (sym ql) qs i) && (ap₂ (λ a b. a == b) (sym qr) qs i) && bytes_eq (map (λ (s : SupportShape). s.slot) step.supports) (supported_same names key.slots i))
       (λ shape.
       let parts = and_parts _ _ shape in
@@ -258,18 +258,18 @@ module _ (triples : List Triple) (names : List Term) (rows : List (List ℕ)) (k
       let cl : length step.left ≡ length key.slots = sym ql ∙ eqb-true _ _ counts.0 in
       let cr : length step.right ≡ length key.slots = sym qr ∙ eqb-true _ _ counts.1 in
       let slots : map (λ (s : SupportShape). s.slot) step.supports ≡ supported_variables key.slots = (bytes_eq-Decides _ _).0 parts.1 in
-      asked_same _ _ _ _ _ (ap₂ (λ a b. a && b) (known_same step.left hl) (known_same step.right hr)) (λ _.
-      asked_same _ _ _ _ _ (ap₂ (λ a b. a && b) (differ_same step.left hl) (differ_same step.right hr)) (λ _.
-      asked_same _ _ _ _ _ (ap₂ (λ a b. a && b) (kinds_same key K ends_in step.left hl cl) (kinds_same key K ends_in step.right hr cr)) (λ _.
-      asked_same _ _ _ _ _ (ap₂ (λ a b. a && b) (images_same key K ends_in step.left hl cl) (images_same key K ends_in step.right hr cr)) (λ _.
-      asked_same _ _ _ _ _ (ap₂ (λ a b. a && b) (constants_same key K ends_in step.left hl cl) (constants_same key K ends_in step.right hr cr)) (λ _.
-      asked_same _ _ _ _ _
-      (each_from_zero (slot_of names) (λ at slot. numbers_agree_at names slot (slice_index step.left at) (slice_index step.right at)) (λ at slot. agree slot (term_at (map term step.left) at) (term_at (map term step.right) at)) key.slots (λ s slot at.
+      unless_same _ _ _ _ _ (ap₂ (λ a b. a && b) (known_same step.left hl) (known_same step.right hr)) (λ _.
+      unless_same _ _ _ _ _ (ap₂ (λ a b. a && b) (differ_same step.left hl) (differ_same step.right hr)) (λ _.
+      unless_same _ _ _ _ _ (ap₂ (λ a b. a && b) (kinds_same key K ends_in step.left hl cl) (kinds_same key K ends_in step.right hr cr)) (λ _.
+      unless_same _ _ _ _ _ (ap₂ (λ a b. a && b) (images_same key K ends_in step.left hl cl) (images_same key K ends_in step.right hr cr)) (λ _.
+      unless_same _ _ _ _ _ (ap₂ (λ a b. a && b) (constants_same key K ends_in step.left hl cl) (constants_same key K ends_in step.right hr cr)) (λ _.
+      unless_same _ _ _ _ _
+      (each_from_zero (slot_of names) (λ at slot. numbers_agree_at names slot (slice_index step.left at) (slice_index step.right at)) (λ at slot. terms_agree slot (term_at (map term step.left) at) (term_at (map term step.right) at)) key.slots (λ s slot at.
       let h = slice_get_within key.slots s slot at in
       agree_same key K ends_in slot (slice_index step.left s) (slice_index step.right s) (within key K ends_in step.left hl cl s h) (within key K ends_in step.right hr cr s h)
-      ∙ ap (λ u. agree slot u (term (slice_index step.right s))) (sym (term_is key K ends_in step.left hl cl s h)) ∙ ap (agree slot (term_at (map term step.left) s)) (sym (term_is key K ends_in step.right hr cr s h)))) (λ _.
-      asked_same _ _ _ _ _ (ap (λ c. list_all (are_earlier c) step.supports) (sym (length-map ends both))) (λ _.
-      asked_same _ _ _ _ _
+      ∙ ap (λ u. terms_agree slot u (term (slice_index step.right s))) (sym (term_is key K ends_in step.left hl cl s h)) ∙ ap (terms_agree slot (term_at (map term step.left) s)) (sym (term_is key K ends_in step.right hr cr s h)))) (λ _.
+      unless_same _ _ _ _ _ (ap (λ c. list_all (are_earlier c) step.supports) (sym (length-map ends both))) (λ _.
+      unless_same _ _ _ _ _
       (all_same (numbers_lead_there ends step) (leads_there (map both ends) (step_with names step)) step.supports (λ k u at.
       let s : u.slot < length key.slots = supported_within key.slots k u.slot (ap (λ l. slice_get l k) (sym slots) ∙ map_at (λ (v : SupportShape). v.slot) step.supports k u at) in
       leads_same ends inside (places_of u.steps) (slice_index step.left u.slot) (slice_index step.right u.slot) (within key K ends_in step.left hl cl u.slot s) (within key K ends_in step.right hr cr u.slot s)

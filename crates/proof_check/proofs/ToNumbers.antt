@@ -32,7 +32,7 @@ use Rattle.key_file.specs.Compile.{slot_of, numbered_edge, shape_of, patterns_of
 use Rattle.proof_graph.specs.Leads.{other_end, end_along, arrives, links_lead}
 use Rattle.proof_graph.specs.Steps.{SupportShape, StepShape, term_at, step_ends}
 use Rattle.key_file.specs.Numbered.{rdf_type, graph_of}
-use Rattle.proof_check.specs.Verdict.{key_place, variables_from, supported_variables, has_shape, are_known, is_known, is_typed, has_kind, have_kinds, has_triple, has_image, have_images, is_constant, are_constants, agree, all_agree, asked, reason_at, reason_of}
+use Rattle.proof_check.specs.Verdict.{key_place, variables_from, supported_variables, has_shape, are_known, is_known, is_typed, has_kind, have_kinds, has_triple, has_image, have_images, is_constant, are_constants, terms_agree, all_agree, reason_unless, reason_at, reason_of}
 use Rattle.proof_graph.specs.Tells.{are_earlier, places_of, leads_there}
 use Rattle.proof_check.specs.declared.reason.Reason.{Reason}
 use Rattle.proof_check.specs.StepEntries.{step_entry, step_entries}
@@ -41,9 +41,9 @@ use Rattle.proof_check.proofs.NameFacts.{AreNames, slot_named, pred_named, known
 
 -- ---- what the absence of a reason says
 
-asked_none : (test : Bool) (reason : Reason) (later : Option Reason) → asked test reason later ≡ None → (test ≡ true) × (later ≡ None)
-asked_none true reason later h = (refl, h)
-asked_none false reason later h = absurd cc
+unless_none : (test : Bool) (reason : Reason) (later : Option Reason) → reason_unless test reason later ≡ None → (test ≡ true) × (later ≡ None)
+unless_none true reason later h = (refl, h)
+unless_none false reason later h = absurd cc
 
 -- all tests of a step hold
 pub record Holds (triples : List Triple) (earlier : List (Term × Term)) (step : StepShape) (key : KeyShape) : Type 0 where
@@ -60,15 +60,15 @@ pub record Holds (triples : List Triple) (earlier : List (Term × Term)) (step :
 pub holds_at : (triples : List Triple) (earlier : List (Term × Term)) (step : StepShape) (o : Option KeyShape) → reason_at triples earlier step o ≡ None → (key : KeyShape) × (o ≡ Some key) × Holds triples earlier step key
 holds_at triples earlier step None h = absurd cc
 holds_at triples earlier step (Some key) h =
-    let a = asked_none _ _ _ h in
-    let b = asked_none _ _ _ a.1 in
-    let c = asked_none _ _ _ b.1 in
-    let d = asked_none _ _ _ c.1 in
-    let e = asked_none _ _ _ d.1 in
-    let f = asked_none _ _ _ e.1 in
-    let g = asked_none _ _ _ f.1 in
-    let i = asked_none _ _ _ g.1 in
-    let j = asked_none _ _ _ i.1 in (
+    let a = unless_none _ _ _ h in
+    let b = unless_none _ _ _ a.1 in
+    let c = unless_none _ _ _ b.1 in
+    let d = unless_none _ _ _ c.1 in
+    let e = unless_none _ _ _ d.1 in
+    let f = unless_none _ _ _ e.1 in
+    let g = unless_none _ _ _ f.1 in
+    let i = unless_none _ _ _ g.1 in
+    let j = unless_none _ _ _ i.1 in (
       key,
       refl,
       record {
@@ -253,7 +253,7 @@ module _ (triples : List Triple) (keys : List KeyShape) (names : List Term) (N :
         subst (λ ls. joined ls (num (term_at step.left s)) (num (term_at step.right s)) ≡ true) (sym (links_of before))
         (subst (λ m. joined (map (both num) (map step_ends before)) (num (term_at step.left m)) (num (term_at step.right m)) ≡ true) u.2 same)
     agree_at s before step (Any name type) h at = tt
-    agree_at s before step (Value name) h at = ap num (same_term-true _ _ (slot_test (λ n sl. agree sl (term_at step.left n) (term_at step.right n)) key.slots s (Value name) h.values at))
+    agree_at s before step (Value name) h at = ap num (same_term-true _ _ (slot_test (λ n sl. terms_agree sl (term_at step.left n) (term_at step.right n)) key.slots s (Value name) h.values at))
     agree_at s before step (Folded name) h at =
         let shape = and_parts _ _ h.shape in
         let counts = and_parts _ _ shape.0 in
@@ -262,7 +262,7 @@ module _ (triples : List Triple) (keys : List KeyShape) (names : List Term) (N :
         alike_row triples keys names N (term_at step.left s) (term_at step.right s)
         (known_named triples keys names N (term_at step.left s) (all_at (is_known triples) step.left s (term_at step.left s) h.known.0 (term_there step.left s (Folded name) l at)))
         (known_named triples keys names N (term_at step.right s) (all_at (is_known triples) step.right s (term_at step.right s) h.known.1 (term_there step.right s (Folded name) r at)))
-        (same_term-true _ _ (slot_test (λ n sl. agree sl (term_at step.left n) (term_at step.right n)) key.slots s (Folded name) h.values at))
+        (same_term-true _ _ (slot_test (λ n sl. terms_agree sl (term_at step.left n) (term_at step.right n)) key.slots s (Folded name) h.values at))
     agree_at s before step (Fixed c) h at = tt
 
     -- a step whose tests hold is a chase step

@@ -15,7 +15,7 @@ use Rattle.proof_graph.specs.Leads.{links_lead}
 use Rattle.proof_graph.specs.Steps.{SupportShape, StepNumbers, term_at}
 use Rattle.key_file.specs.Numbered.{rdf_type}
 use Rattle.proof_graph.specs.Tells.{supported_slots, are_earlier, places_of}
-use Rattle.proof_check.specs.Verdict.{each_slot, has_triple, is_known, asked}
+use Rattle.proof_check.specs.Verdict.{each_slot, has_triple, is_known, reason_unless}
 use Rattle.proof_check.specs.declared.reason.Reason.{Reason}
 use Rattle.proof_check.specs.declared.reason.Reason.TheVariants.{UnknownKey, WrongShape, TermNotInTheGraph, TermTwice, WrongKindOrType, TripleMissing, ConstantDiffers, ValueDiffers, SupportNotEarlier, SupportDoesNotLeadThere}
 
@@ -94,13 +94,13 @@ numbers_lead_there ends step support = links_lead nat_eq ends (places_of support
 -- the least reason against a step with this pattern, where the earlier steps have these ends
 abbrev pub number_reason : List (List ℕ) → List Bool → List Term → ℕ → List (ℕ × ℕ) → StepNumbers → Shape → Option Reason
 number_reason rows known names kind ends step Q =
-    asked (numbers_have_shape Q step) WrongShape
-    (asked (numbers_are_known known step.left && numbers_are_known known step.right) TermNotInTheGraph
-    (asked (all_differ nat_eq step.left && all_differ nat_eq step.right) TermTwice
-    (asked (numbers_have_kinds rows names kind Q.slots step.left && numbers_have_kinds rows names kind Q.slots step.right) WrongKindOrType
-    (asked (numbers_have_images rows Q.edges step.left && numbers_have_images rows Q.edges step.right) TripleMissing
-    (asked (numbers_are_constants Q.slots step.left && numbers_are_constants Q.slots step.right) ConstantDiffers
-    (asked (numbers_agree names Q.slots step.left step.right) ValueDiffers
-    (asked (list_all (are_earlier (length ends)) step.supports) SupportNotEarlier
-    (asked (list_all (numbers_lead_there ends step) step.supports) SupportDoesNotLeadThere
+    reason_unless (numbers_have_shape Q step) WrongShape
+    (reason_unless (numbers_are_known known step.left && numbers_are_known known step.right) TermNotInTheGraph
+    (reason_unless (all_differ nat_eq step.left && all_differ nat_eq step.right) TermTwice
+    (reason_unless (numbers_have_kinds rows names kind Q.slots step.left && numbers_have_kinds rows names kind Q.slots step.right) WrongKindOrType
+    (reason_unless (numbers_have_images rows Q.edges step.left && numbers_have_images rows Q.edges step.right) TripleMissing
+    (reason_unless (numbers_are_constants Q.slots step.left && numbers_are_constants Q.slots step.right) ConstantDiffers
+    (reason_unless (numbers_agree names Q.slots step.left step.right) ValueDiffers
+    (reason_unless (list_all (are_earlier (length ends)) step.supports) SupportNotEarlier
+    (reason_unless (list_all (numbers_lead_there ends step) step.supports) SupportDoesNotLeadThere
     None))))))))

@@ -23,14 +23,14 @@ abbrev pub row_in : List Term → Triple → Option (List ℕ)
 row_in names t = row_of_numbers (number_in names t.subject) (number_in names t.predicate) (number_in names t.object)
 
 -- the flags with that of a number set, if there is one
-abbrev pub marked : List Bool → Option ℕ → List Bool
-marked flags None = flags
-marked flags (Some n) = slice_set flags n true
+abbrev pub with_mark : List Bool → Option ℕ → List Bool
+with_mark flags None = flags
+with_mark flags (Some n) = slice_set flags n true
 
 -- the flags of the numbers of a triple's subject and object are set, where they have some
 pub record MarksEnds (names : List Term) (triple : Triple) (old new : List Bool) : Type 0 where
   pub count : length new ≡ length old
-  pub flags : (n : ℕ) → n < length names → slice_index_or new n false ≡ (slice_index_or old n false || is_end (term_at names n) triple)
+  pub set_or_kept : (n : ℕ) → n < length names → slice_index_or new n false ≡ (slice_index_or old n false || is_end (term_at names n) triple)
 
 -- a step's numbers have places for each slot of its pattern, each edge and each support
 pub record HasPlaces (Q : Shape) (step : StepNumbers) : Type 0 where

@@ -107,34 +107,34 @@ abbrev pub are_constants : KeyShape → List Term → Bool
 are_constants key terms = each_slot (λ n slot. is_constant slot (term_at terms n)) 0 key.slots
 
 -- two terms agree at a slot: at a value variable they are equal, at a folded one equal once case is folded
-abbrev pub agree : KeySlot → Term → Term → Bool
-agree (Entity name type) t u = true
-agree (Any name type) t u = true
-agree (Value name) t u = same_term t u
-agree (Folded name) t u = same_term (folded_term t) (folded_term u)
-agree (Fixed constant) t u = true
+abbrev pub terms_agree : KeySlot → Term → Term → Bool
+terms_agree (Entity name type) t u = true
+terms_agree (Any name type) t u = true
+terms_agree (Value name) t u = same_term t u
+terms_agree (Folded name) t u = same_term (folded_term t) (folded_term u)
+terms_agree (Fixed constant) t u = true
 
 -- the left and the right term agree at each slot
 abbrev pub all_agree : KeyShape → StepShape → Bool
-all_agree key step = each_slot (λ n slot. agree slot (term_at step.left n) (term_at step.right n)) 0 key.slots
+all_agree key step = each_slot (λ n slot. terms_agree slot (term_at step.left n) (term_at step.right n)) 0 key.slots
 
 -- a test, and the reason where it fails; the later reasons count only where it holds
-abbrev pub asked : Bool → Reason → Option Reason → Option Reason
-asked test reason later = if test then later else Some reason
+abbrev pub reason_unless : Bool → Reason → Option Reason → Option Reason
+reason_unless test reason later = if test then later else Some reason
 
 -- the least reason against a step with this key, or with an unknown one, where the earlier steps have these ends
 abbrev pub reason_at : List Triple → List (Term × Term) → StepShape → Option KeyShape → Option Reason
 reason_at triples earlier step None = Some UnknownKey
 reason_at triples earlier step (Some key) =
-    asked (has_shape key step) WrongShape
-    (asked (are_known triples step.left && are_known triples step.right) TermNotInTheGraph
-    (asked (all_differ same_term step.left && all_differ same_term step.right) TermTwice
-    (asked (have_kinds triples key step.left && have_kinds triples key step.right) WrongKindOrType
-    (asked (have_images triples key step.left && have_images triples key step.right) TripleMissing
-    (asked (are_constants key step.left && are_constants key step.right) ConstantDiffers
-    (asked (all_agree key step) ValueDiffers
-    (asked (list_all (are_earlier (length earlier)) step.supports) SupportNotEarlier
-    (asked (list_all (leads_there earlier step) step.supports) SupportDoesNotLeadThere
+    reason_unless (has_shape key step) WrongShape
+    (reason_unless (are_known triples step.left && are_known triples step.right) TermNotInTheGraph
+    (reason_unless (all_differ same_term step.left && all_differ same_term step.right) TermTwice
+    (reason_unless (have_kinds triples key step.left && have_kinds triples key step.right) WrongKindOrType
+    (reason_unless (have_images triples key step.left && have_images triples key step.right) TripleMissing
+    (reason_unless (are_constants key step.left && are_constants key step.right) ConstantDiffers
+    (reason_unless (all_agree key step) ValueDiffers
+    (reason_unless (list_all (are_earlier (length earlier)) step.supports) SupportNotEarlier
+    (reason_unless (list_all (leads_there earlier step) step.supports) SupportDoesNotLeadThere
     None))))))))
 
 -- the least reason against a step, whose key is found by its name

@@ -10,7 +10,7 @@ ghost use Rattle.term_table.specs.Numbering.{AreDistinct, is_named, place_of};
 ghost use Rattle.proof_graph.specs.Steps.{term_at};
 ghost use Rattle.proof_check.specs.Verdict.{is_known};
 ghost use Rattle.proof_check.specs.NumberVerdict.{IsLookup};
-ghost use Rattle.proof_check.specs.Rows.{number_in, row_of_numbers, row_in, marked, MarksEnds};
+ghost use Rattle.proof_check.specs.Rows.{number_in, row_of_numbers, row_in, with_mark, MarksEnds};
 
 use crate::lent_triple::{LentTriple, triple_at};
 use crate::rows::sorted;
@@ -29,7 +29,7 @@ fn number(names: &Names, term: &TermRef<'_>) -> Option<u32>
 /// Marks a number, if there is one.
 fn mark(known: &mut [bool], number: Option<u32>)
     requires { IfSome number (λ n. n < length known.old) }
-    ensures { known.new ≡ marked known.old number }
+    ensures { known.new ≡ with_mark known.old number }
 {
     if let Some(n) = number {
         known[n as usize] = true;

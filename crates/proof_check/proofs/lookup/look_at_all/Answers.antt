@@ -22,5 +22,5 @@ loop-place-preserved c =
     record {
       rows = c.in_ok-look_at.ensures.rows ∙ ap (λ rows. rows ++ option_to_list (row_in names t)) before.rows ∙ sym (rows_more names triples i t c.triple_at.ensures);
       count = marks.count ∙ before.count;
-      known = λ n h. marks.flags n h ∙ ap (λ b. b || is_end (term_at names n) t) (before.known n h) ∙ sym (known_more triples i t (term_at names n) c.triple_at.ensures);
+      known = λ n h. marks.set_or_kept n h ∙ ap (λ b. b || is_end (term_at names n) t) (before.known n h) ∙ sym (known_more triples i t (term_at names n) c.triple_at.ensures);
     }

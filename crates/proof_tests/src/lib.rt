@@ -1,0 +1,11 @@
+//! Tests of proofs: `proof_graph` and `proof_check`. They stand here and not in those crates, since a crate with tests is proved
+//! twice.
+//!
+//! - `files`: what is read from proof files, and what is written
+//! - `judged`: what the checker says
+#![tactic(auto)]
+
+#[cfg(test)]
+mod files;
+#[cfg(test)]
+mod judged;
