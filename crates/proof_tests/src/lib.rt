@@ -3,9 +3,12 @@
 //!
 //! - `files`: what is read from proof files, and what is written
 //! - `judged`: what the checker says
+//! - `journals`: which entries of a journal lead from one name to another
 #![tactic(auto)]
 
 #[cfg(test)]
 mod files;
+#[cfg(test)]
+mod journals;
 #[cfg(test)]
 mod judged;

@@ -300,6 +300,20 @@ static RIGHT_NUMBERS: [Refused; 7] = [
     (b"done\n", 7, ProofFault::BadLine),
 ];
 
+/// Last lines of a proof of three steps.
+static ALBUMS: [Refused; 3] = [
+    (b"", 15, ProofFault::FileEndsInsideAProof),
+    (b"end 2\n", 16, ProofFault::CountDiffers),
+    (b"end 03\n", 16, ProofFault::BadLine),
+];
+
+/// Right sides of the last step of the same proof in version 2.
+static ALBUM_NUMBERS: [Refused; 3] = [
+    (b"right 11 7 9\n", 24, ProofFault::TermNumberOutOfRange),
+    (b"right 010 7 9\n", 24, ProofFault::BadLine),
+    (b"right 10 7 9 0\n", 24, ProofFault::BadLine),
+];
+
 /// Lines after both sides of a step, in version 2.
 static LATER: [Refused; 6] = [
     (b"by 16\n", 8, ProofFault::BadLine),
@@ -312,7 +326,7 @@ static LATER: [Refused; 6] = [
 
 /// Fronts of files, whose lines are all good, and what may not come after them. A function hands them out, so that no proof
 /// looks into the tables.
-pub(super) fn all() -> [(&'static [u8], &'static [Refused]); 12] {
+pub(super) fn all() -> [(&'static [u8], &'static [Refused]); 14] {
     [
         (b"", &HEADER),
         (b"gkey-proof 1\n", &STEP),
@@ -339,6 +353,14 @@ pub(super) fn all() -> [(&'static [u8], &'static [Refused]); 12] {
         (
             b"gkey-proof 2\nterms 2\n<urn:a>\n\"1\"\nstep k\nleft 1 2\n",
             &RIGHT_NUMBERS,
+        ),
+        (
+            b"gkey-proof 1\nstep album_year\nleft <urn:al1> \"Anthology 2\" \"1996\"\nright <urn:al2> \"Anthology 2\" \"1996\"\ndone\nstep artist\nleft <urn:ar1> <urn:al1> \"The Beatles\"\nright <urn:ar2> <urn:al2> \"The Beatles\"\nby 1 1\ndone\nstep album_by\nleft <urn:al3> <urn:ar1> \"Help!\"\nright <urn:al4> <urn:ar2> \"Help!\"\nby 1 2\ndone\n",
+            &ALBUMS,
+        ),
+        (
+            b"gkey-proof 2\nterms 10\n<urn:al1>\n\"Anthology 2\"\n\"1996\"\n<urn:al2>\n<urn:ar1>\n\"The Beatles\"\n<urn:ar2>\n<urn:al3>\n\"Help!\"\n<urn:al4>\nstep album_year\nleft 1 2 3\nright 4 2 3\ndone\nstep artist\nleft 5 1 6\nright 7 4 6\nby 1 1\ndone\nstep album_by\nleft 8 5 9\n",
+            &ALBUM_NUMBERS,
         ),
         (
             b"gkey-proof 2\nterms 2\n<urn:a>\n\"1\"\nstep k\nleft 1 2\nright 2 1\n",
