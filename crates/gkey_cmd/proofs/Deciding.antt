@@ -13,27 +13,33 @@ use Rattle.gk_io.specs.declared.shelf.Shelf
 use Rattle.nt_reader.proofs.CallerLemmas.{file_once}
 use Rattle.key_file.specs.KeyShape.{KeyShape}
 use Rattle.key_lang.proofs.CallerLemmas.{keys_once}
-use Rattle.graph_rows.specs.GraphFile.{StopsSoon, GivesRows}
-use Rattle.graph_rows.proofs.CallerLemmas.{told, told_both}
-use Rattle.gkey_cmd.specs.Commands.{Wanted, Matching, files_of}
-use Rattle.gkey_cmd.specs.Reading.{NamedFiles, IsAccepted, GraphSays, KeyFileSays, IsRefusedSo, AllAccepted, FirstRefused}
-use Rattle.gkey_cmd.specs.HowFar.{IsReadWithin, KeysLeft, StopsReading}
+use Rattle.proof_graph.specs.Steps.{StepShape}
+use Rattle.proof_graph.specs.CanonicalProof.{proof_text}
+use Rattle.proof_check.specs.Verdict.{verdict}
+use Rattle.graph_rows.specs.GraphFile.{StopsSoon, StopsAtGraph}
+use Rattle.graph_rows.proofs.CallerLemmas.{told, told_more, told_both}
+use Rattle.gkey_cmd.specs.Commands.{Wanted, Matching, Proving, Checking, Converting, files_of}
+use Rattle.gkey_cmd.specs.Reading.{NamedFiles, IsAccepted, GraphSays, KeyFileSays, ProofFileSays, IsRefusedSo, AllAccepted, FirstRefused}
+use Rattle.gkey_cmd.specs.HowFar.{IsReadWithin, FileLeft, KeysLeft, ProofLeft, ChaseStops, LeavesFiles, StopsReading}
 use Rattle.gkey_cmd.specs.Failing.{HasFailed}
 use Rattle.gkey_cmd.specs.Matched.{IsReport, HasTooManyPairs}
-use Rattle.gkey_cmd.specs.Written.{HasMorePairs, IsAnswered, IsRefused}
-use Rattle.gkey_cmd.specs.MatchEnds.{MatchEnds}
+use Rattle.gkey_cmd.specs.Checked.{verdict_answer, verdict_text}
+use Rattle.gkey_cmd.specs.Written.{ChaseHasMorePairs, HasMorePairs, IsAnswered, IsRefused}
+use Rattle.gkey_cmd.specs.ChaseEnds.{ChaseEnds, IsProofOfFiles}
+use Rattle.gkey_cmd.proofs.Spelled.{names_good, names_spelled}
 use Rattle.gkey_cmd.specs.Endings.{graph_ending, Stopped, StopsAt, EndsAt, ReadSoFar}
 use Rattle.gkey_cmd.specs.declared.file.File.{File}
-use Rattle.gkey_cmd.specs.declared.file.File.TheVariants.{Graph, Keys}
+use Rattle.gkey_cmd.specs.declared.file.File.TheVariants.{Graph, Keys, Proof}
+use Rattle.gkey_cmd.specs.declared.ending.Answer.{Answer}
 use Rattle.gkey_cmd.specs.declared.ending.Answer.TheVariants.{Given}
 use Rattle.gkey_cmd.specs.declared.ending.Refusal.{Refusal}
-use Rattle.gkey_cmd.specs.declared.ending.Refusal.TheVariants.{InGraph, InKeys, MorePairsThan}
+use Rattle.gkey_cmd.specs.declared.ending.Refusal.TheVariants.{InGraph, InKeys, InProof, MorePairsThan}
 use Rattle.gkey_cmd.specs.declared.ending.Ending.{Ending}
 use Rattle.gkey_cmd.specs.declared.ending.Ending.TheVariants.{NoCommand, Failed, Refused, NoMemory, Done}
 
 -- a graph is not to be had, and the run ends at it
 pub graph_ends : {K : Type 0} (shelf : Shelf.Ghosts K) (before after : K) (limits : Limits) (name : List ℕ) (stop : Stop (FileFault ReadRefusal)) →
-    GivesRows shelf before after limits name (Err stop) → EndsAt shelf before after limits Graph name (graph_ending stop)
+    StopsAtGraph shelf before after limits name stop → EndsAt shelf before after limits Graph name (graph_ending stop)
 graph_ends shelf before after limits name stop.NoMemory h = h
 graph_ends shelf before after limits name (stop.Fault fault.Failed) h = (refl, h)
 graph_ends shelf before after limits name (stop.Fault (fault.Refused refusal)) h = (h.0, h.1, h.2)
@@ -69,17 +75,23 @@ module _ {K : Type 0} (shelf : Shelf.Ghosts K) (old mid new : K) (limits : Limit
         (λ files a e. accepted_more limits files before file name a e) so_far.accepted (told_first _ accepted);
   }
 
-  pub keys_left_first : KeysLeft shelf mid new limits name → KeysLeft shelf old new limits name
-  keys_left_first h = (h.0, told_first (λ files. IsSomeAnd (shelf.rest new) (λ rest. IsReadWithin limits.key_bytes (bytes_of files name) rest)) h.1)
+  pub file_left_first : (limit : ℕ) → FileLeft shelf mid new limit name → FileLeft shelf old new limit name
+  file_left_first limit h = (h.0, told_first (λ files. IsSomeAnd (shelf.rest new) (λ rest. IsReadWithin limit (bytes_of files name) rest)) h.1)
 
   -- how far it was read, said of the files as they were told at first
   stops_first : (f : File) (refusal : Refusal) → StopsAt shelf mid new limits f name refusal → StopsAt shelf old new limits f name refusal
   stops_first Graph (InGraph refusal) h = (h.0, told_first (λ files. IsSomeAnd (shelf.rest new) (λ rest. StopsSoon limits (bytes_of files name) rest)) h.1)
   stops_first Graph (InKeys refusal) h = h
+  stops_first Graph (InProof refusal) h = h
   stops_first Graph (MorePairsThan limit) h = h
   stops_first Keys (InGraph refusal) h = h
-  stops_first Keys (InKeys refusal) h = keys_left_first h
+  stops_first Keys (InKeys refusal) h = file_left_first limits.key_bytes h
+  stops_first Keys (InProof refusal) h = h
   stops_first Keys (MorePairsThan limit) h = h
+  stops_first Proof (InGraph refusal) h = h
+  stops_first Proof (InKeys refusal) h = h
+  stops_first Proof (InProof refusal) h = file_left_first limits.bytes h
+  stops_first Proof (MorePairsThan limit) h = h
 
   -- the next file is not to be had
   pub stopped : (command : Wanted) (after : List (File × List ℕ)) → files_of command ≡ before ++ (file, name) ∷ after →
@@ -108,28 +120,58 @@ module _ {K : Type 0} (shelf : Shelf.Ghosts K) (old mid new : K) (limits : Limit
   stopped command after e stops NoMemory h = h ∙ so_far.count
   stopped command after e stops (Done answer text) h = absurd h
 
--- ---- a match
+-- ---- how far a refused command read
 
-module _ {K : Type 0} (shelf : Shelf.Ghosts K) (old new : K) (limits : Limits) (graph keys : List ℕ) where
-  -- a match that is refused at its graph, and one that is refused at its keys
-  pub stops_at_graph : (refusal : Refusal) → StopsAt shelf old new limits Graph graph refusal → StopsReading shelf old new (Some (Matching graph keys)) limits refusal
+module _ {K : Type 0} (shelf : Shelf.Ghosts K) (old new : K) (limits : Limits) (graph keys proof : List ℕ) where
+  -- a chase that is refused at its graph, and one that is refused at its keys
+  pub stops_at_graph : (refusal : Refusal) → StopsAt shelf old new limits Graph graph refusal → ChaseStops shelf old new graph keys limits refusal
   stops_at_graph (InGraph refusal) h = h
   stops_at_graph (InKeys refusal) h = absurd h
+  stops_at_graph (InProof refusal) h = absurd h
   stops_at_graph (MorePairsThan limit) h = absurd h
 
-  pub stops_at_keys : (refusal : Refusal) → StopsAt shelf old new limits Keys keys refusal → StopsReading shelf old new (Some (Matching graph keys)) limits refusal
+  pub stops_at_keys : (refusal : Refusal) → StopsAt shelf old new limits Keys keys refusal → ChaseStops shelf old new graph keys limits refusal
   stops_at_keys (InGraph refusal) h = absurd h
   stops_at_keys (InKeys refusal) h = h
+  stops_at_keys (InProof refusal) h = absurd h
   stops_at_keys (MorePairsThan limit) h = absurd h
 
+  -- a check that is refused at each of its files
+  pub check_stops_at_graph : (refusal : Refusal) → StopsAt shelf old new limits Graph graph refusal → StopsReading shelf old new (Some (Checking graph keys proof)) limits refusal
+  check_stops_at_graph (InGraph refusal) h = h
+  check_stops_at_graph (InKeys refusal) h = absurd h
+  check_stops_at_graph (InProof refusal) h = absurd h
+  check_stops_at_graph (MorePairsThan limit) h = absurd h
+
+  pub check_stops_at_keys : (refusal : Refusal) → StopsAt shelf old new limits Keys keys refusal → StopsReading shelf old new (Some (Checking graph keys proof)) limits refusal
+  check_stops_at_keys (InGraph refusal) h = absurd h
+  check_stops_at_keys (InKeys refusal) h = h
+  check_stops_at_keys (InProof refusal) h = absurd h
+  check_stops_at_keys (MorePairsThan limit) h = absurd h
+
+  pub check_stops_at_proof : (refusal : Refusal) → StopsAt shelf old new limits Proof proof refusal → StopsReading shelf old new (Some (Checking graph keys proof)) limits refusal
+  check_stops_at_proof (InGraph refusal) h = absurd h
+  check_stops_at_proof (InKeys refusal) h = absurd h
+  check_stops_at_proof (InProof refusal) h = h
+  check_stops_at_proof (MorePairsThan limit) h = absurd h
+
+  -- a proof file that is not converted
+  pub convert_stops : (refusal : Refusal) → StopsAt shelf old new limits Proof proof refusal → StopsReading shelf old new (Some (Converting proof)) limits refusal
+  convert_stops (InGraph refusal) h = absurd h
+  convert_stops (InKeys refusal) h = absurd h
+  convert_stops (InProof refusal) h = h
+  convert_stops (MorePairsThan limit) h = absurd h
+
+-- ---- a chase
+
 module _ (limits : Limits) (files : NamedFiles) (graph keys : List ℕ) (triples : List Triple) (key_list : List KeyShape) (in_graph : GraphSays limits (bytes_of files graph) (Ok triples)) (in_keys : KeyFileSays limits (bytes_of files keys) (Ok key_list)) where
-  both_accepted : AllAccepted limits files (files_of (Matching graph keys))
+  both_accepted : AllAccepted limits files ((Graph, graph) ∷ (Keys, keys) ∷ [])
   both_accepted = ((triples, in_graph), ((key_list, in_keys), tt))
 
-  more_here : HasTooManyPairs triples key_list limits.pairs → HasMorePairs limits files (Matching graph keys)
+  more_here : HasTooManyPairs triples key_list limits.pairs → ChaseHasMorePairs limits files graph keys
   more_here h = (triples, key_list, in_graph, in_keys, h)
 
-  more_only_here : HasMorePairs limits files (Matching graph keys) → HasTooManyPairs triples key_list limits.pairs
+  more_only_here : ChaseHasMorePairs limits files graph keys → HasTooManyPairs triples key_list limits.pairs
   more_only_here h =
       let g = h.2 in
       let k = h.3 in
@@ -139,31 +181,75 @@ module _ (limits : Limits) (files : NamedFiles) (graph keys : List ℕ) (triples
       let same_key : h.1 ≡ key_list = cc in
       subst (λ ts. HasTooManyPairs ts key_list limits.pairs) same_triples (subst (λ q. HasTooManyPairs h.0 q limits.pairs) same_key h.4)
 
-  pub is_answered : (text : List ℕ) → IsReport triples key_list text → ¬ (HasTooManyPairs triples key_list limits.pairs) → IsAnswered (Some (Matching graph keys)) files limits Given text
-  is_answered text report none_more = ((both_accepted, (λ h. none_more (more_only_here h))), (triples, key_list, in_graph, in_keys, report))
+  match_answered : (text : List ℕ) → IsReport triples key_list text → ¬ (HasTooManyPairs triples key_list limits.pairs) → IsAnswered (Some (Matching graph keys)) files limits Given text
+  match_answered text report none_more = ((both_accepted, (λ h. none_more (more_only_here h))), (triples, key_list, in_graph, in_keys, report))
 
-  pub is_refused : HasTooManyPairs triples key_list limits.pairs → IsRefused (Some (Matching graph keys)) files limits (MorePairsThan limits.pairs)
-  is_refused h = inr (both_accepted, more_here h, refl)
+  prove_answered : (text : List ℕ) → IsProofOfFiles triples key_list text → ¬ (HasTooManyPairs triples key_list limits.pairs) → IsAnswered (Some (Proving graph keys)) files limits Given text
+  prove_answered text proof none_more = ((both_accepted, (λ h. none_more (more_only_here h))), (triples, key_list, in_graph, in_keys, proof (names_spelled limits limits.key_bytes (bytes_of files graph) (bytes_of files keys) triples key_list in_graph in_keys) (names_good limits.key_bytes (bytes_of files keys) key_list in_keys)))
+
+  match_refused : HasTooManyPairs triples key_list limits.pairs → IsRefused (Some (Matching graph keys)) files limits (MorePairsThan limits.pairs)
+  match_refused h = inr (both_accepted, more_here h, refl)
+
+  prove_refused : HasTooManyPairs triples key_list limits.pairs → IsRefused (Some (Proving graph keys)) files limits (MorePairsThan limits.pairs)
+  prove_refused h = inr (both_accepted, more_here h, refl)
 
 module _ {K : Type 0} (shelf : Shelf.Ghosts K) (old new : K) (limits : Limits) (graph keys : List ℕ) (triples : List Triple) (key_list : List KeyShape) (count : shelf.faults new ≡ shelf.faults old)
-    (in_graph : IfSome (shelf.held old) (λ files. GraphSays limits (bytes_of files graph) (Ok triples))) (in_keys : IfSome (shelf.held old) (λ files. KeyFileSays limits (bytes_of files keys) (Ok key_list))) (left : KeysLeft shelf old new limits keys) where
-  -- a match that ends so leaves the run so
-  pub match_ended : (result : Result (Vec ℕ Global) Ending) → MatchEnds triples key_list limits.pairs result →
+    (in_graph : IfSome (shelf.held old) (λ files. GraphSays limits (bytes_of files graph) (Ok triples))) (in_keys : IfSome (shelf.held old) (λ files. KeyFileSays limits (bytes_of files keys) (Ok key_list))) where
+  -- a command with a chase that ends so leaves the run so
+  module _ (command : Wanted) (IsText : List Triple → List KeyShape → List ℕ → Type 0) (left : LeavesFiles shelf old new command limits) (stops : StopsReading shelf old new (Some command) limits (MorePairsThan limits.pairs))
+      (answered : (files : NamedFiles) → GraphSays limits (bytes_of files graph) (Ok triples) → KeyFileSays limits (bytes_of files keys) (Ok key_list) → (text : List ℕ) → IsText triples key_list text → ¬ (HasTooManyPairs triples key_list limits.pairs) → IsAnswered (Some command) files limits Given text)
+      (refused : (files : NamedFiles) → GraphSays limits (bytes_of files graph) (Ok triples) → KeyFileSays limits (bytes_of files keys) (Ok key_list) → HasTooManyPairs triples key_list limits.pairs → IsRefused (Some command) files limits (MorePairsThan limits.pairs)) where
+    chase_ended : (result : Result (Vec ℕ Global) Ending) → ChaseEnds IsText triples key_list limits.pairs result →
+        MatchResult result (λ text. Stopped shelf old new command limits (Done Given text)) (Stopped shelf old new command limits)
+    chase_ended (Ok text) h = (
+      count,
+      told_both (shelf.held old) _ _ (λ files. IsAnswered (Some command) files limits Given (vec_items text))
+          (λ files g k. answered files g k (vec_items text) h.0 h.1) in_graph in_keys,
+      left,
+    )
+    chase_ended (Err (Refused refusal)) h = (
+      count,
+      subst (λ r. IfSome (shelf.held old) (λ files. IsRefused (Some command) files limits r)) (sym h.0)
+          (told_both (shelf.held old) _ _ (λ files. IsRefused (Some command) files limits (MorePairsThan limits.pairs))
+          (λ files g k. refused files g k h.1) in_graph in_keys),
+      subst (λ r. StopsReading shelf old new (Some command) limits r) (sym h.0) stops,
+    )
+    chase_ended (Err NoMemory) h = count
+    chase_ended (Err NoCommand) h = absurd h
+    chase_ended (Err (Failed file)) h = absurd h
+    chase_ended (Err (Done answer text)) h = absurd h
+
+  pub match_ended : KeysLeft shelf old new limits keys → (result : Result (Vec ℕ Global) Ending) → ChaseEnds IsReport triples key_list limits.pairs result →
       MatchResult result (λ text. Stopped shelf old new (Matching graph keys) limits (Done Given text)) (Stopped shelf old new (Matching graph keys) limits)
-  match_ended (Ok text) h = (
-    count,
-    told_both (shelf.held old) _ _ (λ files. IsAnswered (Some (Matching graph keys)) files limits Given (vec_items text))
-        (λ files g k. is_answered limits files graph keys triples key_list g k (vec_items text) h.0 h.1) in_graph in_keys,
-    left,
-  )
-  match_ended (Err (Refused refusal)) h = (
-    count,
-    subst (λ r. IfSome (shelf.held old) (λ files. IsRefused (Some (Matching graph keys)) files limits r)) (sym h.0)
-        (told_both (shelf.held old) _ _ (λ files. IsRefused (Some (Matching graph keys)) files limits (MorePairsThan limits.pairs))
-        (λ files g k. is_refused limits files graph keys triples key_list g k h.1) in_graph in_keys),
-    subst (λ r. StopsReading shelf old new (Some (Matching graph keys)) limits r) (sym h.0) left,
-  )
-  match_ended (Err NoMemory) h = count
-  match_ended (Err NoCommand) h = absurd h
-  match_ended (Err (Failed file)) h = absurd h
-  match_ended (Err (Done answer text)) h = absurd h
+  match_ended left = chase_ended (Matching graph keys) IsReport left left (λ files g k. match_answered limits files graph keys triples key_list g k) (λ files g k. match_refused limits files graph keys triples key_list g k)
+
+  pub prove_ended : KeysLeft shelf old new limits keys → (result : Result (Vec ℕ Global) Ending) → ChaseEnds IsProofOfFiles triples key_list limits.pairs result →
+      MatchResult result (λ text. Stopped shelf old new (Proving graph keys) limits (Done Given text)) (Stopped shelf old new (Proving graph keys) limits)
+  prove_ended left = chase_ended (Proving graph keys) IsProofOfFiles left left (λ files g k. prove_answered limits files graph keys triples key_list g k) (λ files g k. prove_refused limits files graph keys triples key_list g k)
+
+  -- ---- a check
+  module _ (proof : List ℕ) (steps : List StepShape) (in_proof : IfSome (shelf.held old) (λ files. ProofFileSays limits (bytes_of files proof) (Ok steps))) (left : ProofLeft shelf old new limits proof) where
+    pub check_ended : (answer : Answer) (text : Vec ℕ Global) → answer ≡ verdict_answer (verdict triples key_list steps) → vec_items text ≡ verdict_text (verdict triples key_list steps) →
+        Stopped shelf old new (Checking graph keys proof) limits (Done answer text)
+    check_ended answer text a t = (
+      count,
+      told_both (shelf.held old) _ _ (λ files. IsAnswered (Some (Checking graph keys proof)) files limits answer (vec_items text))
+          (λ files g p. (
+            (((triples, g), ((key_list, p.0), ((steps, p.1), tt))), (λ h. h)),
+            (triples, key_list, steps, g, p.0, p.1, a, t),
+          ))
+          in_graph (told_both (shelf.held old) _ _ (λ files. KeyFileSays limits (bytes_of files keys) (Ok key_list) × ProofFileSays limits (bytes_of files proof) (Ok steps)) (λ files k p. (k, p)) in_keys in_proof),
+      left,
+    )
+
+-- ---- a proof file that is converted
+
+pub convert_ended : {K : Type 0} (shelf : Shelf.Ghosts K) (old new : K) (limits : Limits) (proof : List ℕ) (steps : List StepShape) (text : Vec ℕ Global) → shelf.faults new ≡ shelf.faults old →
+    IfSome (shelf.held old) (λ files. ProofFileSays limits (bytes_of files proof) (Ok steps)) → ProofLeft shelf old new limits proof → vec_items text ≡ proof_text steps →
+    Stopped shelf old new (Converting proof) limits (Done Given text)
+convert_ended shelf old new limits proof steps text count in_proof left t = (
+  count,
+  told_more (shelf.held old) _ (λ files. IsAnswered (Some (Converting proof)) files limits Given (vec_items text))
+      (λ files p. ((((steps, p), tt), (λ h. h)), (steps, p, t))) in_proof,
+  left,
+)

@@ -1,6 +1,6 @@
--- What is judged of the first bytes of a key file, up to one more than the limit, is true of the file, and no more of it is
--- read.
-use Rattle.std.proofs.Common.{List, ◌++◌, ◌≤◌, ℕ, Option, Some, None, IfSome, IsSomeAnd, Result, Ok, Err, if◌then◌else◌, ◌≡◌, ◌+◌, ◌<◌, sym, ◌∙◌, ap, ap₂, subst, take, length, slice_index, arith, inl, inr}
+-- What is judged of the first bytes of a key file or a proof file, up to one more than the limit, is true of the file, and no
+-- more of it is read.
+use Rattle.std.proofs.Common.{List, ◌++◌, ◌≤◌, ℕ, Option, Some, None, IfSome, IsSomeAnd, Result, Ok, Err, if◌then◌else◌, ◌≡◌, ◌+◌, ◌<◌, refl, sym, ◌∙◌, ap, ap₂, subst, take, length, slice_index, arith, inl, inr}
 use Rattle.std.proofs.lemmas.List.{take-take, take_all, length-take-le, get_or-take}
 use Rattle.std.proofs.lemmas.Bool.{cases_lt, lt-ltb, lt-leb}
 use Rattle.gk_base.specs.Answers.{IsSo}
@@ -17,9 +17,13 @@ use Rattle.key_lang.specs.declared.fault.KeyRefusal.{KeyRefusal}
 use Rattle.key_lang.specs.Answers.{stops, goes_on}
 use Rattle.key_lang.specs.OpenKey.{KeyState}
 use Rattle.key_lang.specs.KeyText.{LinesSay, KeysSay, start, ended, after_lines}
-use Rattle.gkey_cmd.specs.HowFar.{IsReadWithin, KeysLeft}
-use Rattle.gkey_cmd.specs.Endings.{keys_ending, EndsAt}
-use Rattle.gkey_cmd.specs.declared.file.File.TheVariants.{Keys}
+use Rattle.proof_graph.specs.Steps.{StepShape}
+use Rattle.proof_graph.specs.ProofText.{ProofState, ProofLinesSay, ProofSays, proof_start, proof_ended, after_proof_lines, proof_or_refusal}
+use Rattle.proof_graph.specs.declared.fault.ProofFault.TheVariants as proof_fault
+use Rattle.proof_graph.specs.declared.fault.ProofRefusal.{ProofRefusal}
+use Rattle.gkey_cmd.specs.HowFar.{IsReadWithin, KeysLeft, ProofLeft}
+use Rattle.gkey_cmd.specs.Endings.{keys_ending, proof_ending, EndsAt}
+use Rattle.gkey_cmd.specs.declared.file.File.TheVariants.{Keys, Proof}
 
 -- the first bytes of a longer file
 module _ (limit : ℕ) (bytes : List ℕ) (longer : limit < length bytes) where
@@ -54,11 +58,41 @@ module _ (limit : ℕ) (bytes : List ℕ) (longer : limit < length bytes) where
   keys_long (Err refusal) (stops h) = stops (subst (λ ls. LinesSay start 1 ls (Err refusal)) same_judged h)
   keys_long answer (goes_on {x} h e) = goes_on (subst (λ ls. LinesSay start 1 ls (Ok x)) same_judged h) (e ∙ same_after x)
 
+  -- the same of a proof file
+  abbrev proof_refusal_of : List ℕ → Result (List StepShape) ProofRefusal
+  proof_refusal_of xs = Err (record { line = line_of_next (take limit xs) (slice_index xs limit); fault = proof_fault.FileTooLong })
+
+  after_long_proof : (xs : List ℕ) → limit < length xs → (state : ProofState) → after_proof_lines limit xs state ≡ proof_refusal_of xs
+  after_long_proof xs h state = ap (λ b. if b then proof_refusal_of xs else proof_ended state state.stage (length (lines xs))) (lt-ltb limit (length xs) h)
+
+  same_proof_refusal : proof_refusal_of front ≡ proof_refusal_of bytes
+  same_proof_refusal = ap₂ (λ xs b. Err (record { line = line_of_next xs b; fault = proof_fault.FileTooLong })) same_front (get_or-take (limit + 1) bytes limit 0 (omega arith))
+
+  same_proof : (read : Result ProofState ProofRefusal) → proof_or_refusal limit front read ≡ proof_or_refusal limit bytes read
+  same_proof (Err refusal) = refl
+  same_proof (Ok state) = after_long_proof front (omega (arith, length_front)) state ∙ same_proof_refusal ∙ sym (after_long_proof bytes longer state)
+
+  proof_long : (answer : Result (List StepShape) ProofRefusal) → ProofSays limit front answer → ProofSays limit bytes answer
+  proof_long answer h = (h.0, subst (λ ls. ProofLinesSay proof_start 1 ls h.0) same_judged h.1, h.2 ∙ same_proof h.0)
+
 keys_front : (limit : ℕ) (bytes : List ℕ) (answer : Result (List KeyShape) KeyRefusal) → KeysSay limit (take (limit + 1) bytes) answer → KeysSay limit bytes answer
 keys_front limit bytes answer h = elim (cases_lt limit (length bytes)) [
   | inl longer ↦ keys_long limit bytes longer answer h
   | inr whole ↦ subst (λ xs. KeysSay limit xs answer) (take_all (limit + 1) bytes (omega arith)) h
 ]
+
+proof_front : (limit : ℕ) (bytes : List ℕ) (answer : Result (List StepShape) ProofRefusal) → ProofSays limit (take (limit + 1) bytes) answer → ProofSays limit bytes answer
+proof_front limit bytes answer h = elim (cases_lt limit (length bytes)) [
+  | inl longer ↦ proof_long limit bytes longer answer h
+  | inr whole ↦ subst (λ xs. ProofSays limit xs answer) (take_all (limit + 1) bytes (omega arith)) h
+]
+
+pub proof_loaded : (held : Option (List (List ℕ × List ℕ))) (limit : ℕ) (name bytes seen : List ℕ) (answer : Result (List StepShape) ProofRefusal) →
+    IfSome held (λ files. bytes ≡ take (limit + 1) (bytes_of files name)) → seen ≡ bytes → ProofSays limit seen answer →
+    IfSome held (λ files. ProofSays limit (bytes_of files name) answer)
+proof_loaded None limit name bytes seen answer h e j = tt
+proof_loaded (Some files) limit name bytes seen answer h e j =
+    proof_front limit (bytes_of files name) answer (subst (λ xs. ProofSays limit xs answer) (e ∙ h) j)
 
 pub keys_loaded : (held : Option (List (List ℕ × List ℕ))) (limit : ℕ) (name bytes seen : List ℕ) (answer : Result (List KeyShape) KeyRefusal) →
     IfSome held (λ files. bytes ≡ take (limit + 1) (bytes_of files name)) → seen ≡ bytes → KeysSay limit seen answer →
@@ -67,17 +101,17 @@ keys_loaded None limit name bytes seen answer h e j = tt
 keys_loaded (Some files) limit name bytes seen answer h e j =
     keys_front limit (bytes_of files name) answer (subst (λ xs. KeysSay limit xs answer) (e ∙ h) j)
 
--- a key file whose first bytes were read is left within one byte of its limit
+-- a file whose first bytes were read is left within one byte of its limit
 left_within : (limit : ℕ) (bytes : List ℕ) (rest : Option (List ℕ)) (read : List ℕ) → length read ≤ limit + 1 →
     IsSomeAnd rest (λ left. read ++ left ≡ bytes) → IsSomeAnd rest (λ left. IsReadWithin limit bytes left)
 left_within limit bytes None read within h = h
 left_within limit bytes (Some left) read within h = record { gone = read; whole = sym h; within = within }
 
-pub keys_left : (asked : Option (List ℕ)) (held : Option (List (List ℕ × List ℕ))) (rest : Option (List ℕ)) (name : List ℕ) (limit : ℕ) (read : List ℕ) →
+pub file_left : (asked : Option (List ℕ)) (held : Option (List (List ℕ × List ℕ))) (rest : Option (List ℕ)) (name : List ℕ) (limit : ℕ) (read : List ℕ) →
     asked ≡ Some name → length read ≤ limit + 1 → IfSome held (λ files. IsSomeAnd rest (λ left. read ++ left ≡ bytes_of files name)) →
     (asked ≡ Some name) × IfSome held (λ files. IsSomeAnd rest (λ left. IsReadWithin limit (bytes_of files name) left))
-keys_left asked None rest name limit read e within h = (e, tt)
-keys_left asked (Some files) rest name limit read e within h = (e, left_within limit (bytes_of files name) rest read within h)
+file_left asked None rest name limit read e within h = (e, tt)
+file_left asked (Some files) rest name limit read e within h = (e, left_within limit (bytes_of files name) rest read within h)
 
 -- the first bytes say no keys, and the run ends at the key file
 pub keys_end : {K : Type 0} (shelf : Shelf.Ghosts K) (before after : K) (limits : Limits) (name bytes seen : List ℕ) (stop : Stop KeyRefusal) → shelf.faults after ≡ shelf.faults before →
@@ -86,3 +120,11 @@ pub keys_end : {K : Type 0} (shelf : Shelf.Ghosts K) (before after : K) (limits 
 keys_end shelf before after limits name bytes seen stop.NoMemory count loaded same left says = count
 keys_end shelf before after limits name bytes seen (stop.Fault refusal) count loaded same left says =
     (count, keys_loaded (shelf.held before) limits.key_bytes name bytes seen (Err refusal) loaded same says, left)
+
+-- the first bytes say no proof, and the run ends at the proof file
+pub proof_end : {K : Type 0} (shelf : Shelf.Ghosts K) (before after : K) (limits : Limits) (name bytes seen : List ℕ) (stop : Stop ProofRefusal) → shelf.faults after ≡ shelf.faults before →
+    IfSome (shelf.held before) (λ files. bytes ≡ take (limits.bytes + 1) (bytes_of files name)) → seen ≡ bytes → ProofLeft shelf before after limits name →
+    IsSo {A = List StepShape} (ProofSays limits.bytes seen) (Err stop) → EndsAt shelf before after limits Proof name (proof_ending stop)
+proof_end shelf before after limits name bytes seen stop.NoMemory count loaded same left says = count
+proof_end shelf before after limits name bytes seen (stop.Fault refusal) count loaded same left says =
+    (count, proof_loaded (shelf.held before) limits.bytes name bytes seen (Err refusal) loaded same says, left)

@@ -2,3 +2,5 @@ mod Fronts
 mod Deciding
 mod Running
 mod Reports
+mod Derived
+mod Spelled

@@ -23,7 +23,7 @@ use Rattle.key_file.specs.Compile.{patterns_of}
 use Rattle.key_file.specs.Numbered.{names_for, graph_of}
 use Rattle.graph_rows.specs.Numbered.{AreSameGraph}
 use Rattle.gkey_cmd.specs.Matched.{IsReport, HasTooManyPairs}
-use Rattle.gkey_cmd.specs.MatchEnds.{IsRightMatchStop}
+use Rattle.gkey_cmd.specs.ChaseEnds.{IsRightChaseStop}
 
 -- what the law of more rows says of the same names, and of candidates
 abbrev pub SameLaw : Type 0
@@ -71,6 +71,6 @@ module _ (triples : List Triple) (keys : List KeyShape) (G : NumberedGraph) (nam
   not_too_many law limit none_more h = none_more (more_too law (graph_of names triples) G K limit (record { there = built.back; back = built.there })
       (subst (λ k. HasMoreCandidates (graph_of names triples) k limit) (sym are_patterns) (subst (λ ns. HasMoreCandidates (graph_of ns triples) (patterns_of ns keys) limit) (sym are_names) h)))
 
-  pub right_stop : CandidateLaw → (limit : ℕ) (stop : Stop TooManyPairs) → IsRightStop G K limit stop → IsRightMatchStop triples keys limit stop
+  pub right_stop : CandidateLaw → (limit : ℕ) (stop : Stop TooManyPairs) → IsRightStop G K limit stop → IsRightChaseStop triples keys limit stop
   right_stop law limit NoMemory h = tt
   right_stop law limit (Fault many) h = too_many law limit h.1

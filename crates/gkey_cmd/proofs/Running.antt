@@ -9,6 +9,7 @@ use Rattle.gk_io.specs.declared.shelf.Shelf
 use Rattle.gk_io.specs.declared.sink.Sink
 use Rattle.nt_reader.proofs.CallerLemmas.{file_once}
 use Rattle.key_lang.proofs.CallerLemmas.{keys_once}
+use Rattle.proof_graph.proofs.CallerLemmas.{proof_once}
 use Rattle.graph_rows.proofs.CallerLemmas.{told, told_more}
 use Rattle.gkey_cmd.specs.Commands.{Wanted, files_of}
 use Rattle.gkey_cmd.specs.Texts.{usage, out_of_memory, write_failed, read_failed, refused_text}
@@ -20,11 +21,11 @@ use Rattle.gkey_cmd.specs.Written.{status_of, IsAnswer, IsRefused, AreAccepted, 
 use Rattle.gkey_cmd.specs.Endings.{Caused, IsReportedAs, IsTold}
 use Rattle.gkey_cmd.specs.Run.{IsRun}
 use Rattle.gkey_cmd.specs.declared.file.File.{File}
-use Rattle.gkey_cmd.specs.declared.file.File.TheVariants.{Graph, Keys}
+use Rattle.gkey_cmd.specs.declared.file.File.TheVariants.{Graph, Keys, Proof}
 use Rattle.gkey_cmd.specs.declared.ending.Answer.{Answer}
-use Rattle.gkey_cmd.specs.declared.ending.Answer.TheVariants.{Given}
+use Rattle.gkey_cmd.specs.declared.ending.Answer.TheVariants.{Given, NotAccepted}
 use Rattle.gkey_cmd.specs.declared.ending.Refusal.{Refusal}
-use Rattle.gkey_cmd.specs.declared.ending.Refusal.TheVariants.{InGraph, InKeys, MorePairsThan}
+use Rattle.gkey_cmd.specs.declared.ending.Refusal.TheVariants.{InGraph, InKeys, InProof, MorePairsThan}
 use Rattle.gkey_cmd.specs.declared.ending.Ending.{Ending}
 use Rattle.gkey_cmd.specs.declared.ending.Ending.TheVariants.{NoCommand, Failed, Refused, NoMemory, Done}
 
@@ -45,21 +46,27 @@ took_nothing sink old new e = record {
 
 is_answer : (answer : Answer) → IsAnswer (status_of answer)
 is_answer Given = inl refl
+is_answer NotAccepted = inr refl
 
 not_two : (answer : Answer) → status_of answer ≡ 2 → ⊥
 not_two Given e = omega arith
+not_two NotAccepted e = omega arith
 
 not_three : (answer : Answer) → status_of answer ≡ 3 → ⊥
 not_three Given e = omega arith
+not_three NotAccepted e = omega arith
 
 not_five : (answer : Answer) → status_of answer ≡ 5 → ⊥
 not_five Given e = omega arith
+not_five NotAccepted e = omega arith
 
 not_sixty_four : (answer : Answer) → status_of answer ≡ 64 → ⊥
 not_sixty_four Given e = omega arith
+not_sixty_four NotAccepted e = omega arith
 
 not_four : (answer : Answer) → status_of answer ≡ 4 → ⊥
 not_four Given e = omega arith
+not_four NotAccepted e = omega arith
 
 no_answer : (status other : ℕ) → status ≡ other → 1 ≢ other → 0 ≢ other → IsAnswer status → ⊥
 no_answer status other e one zero h = elim h [ inl k ↦ zero (sym k ∙ e) | inr k ↦ one (sym k ∙ e) ]
@@ -74,24 +81,44 @@ refused_once limits files Graph name (InGraph r) (InGraph s) h k =
     let one : Err r ≡ Err s = file_once limits (bytes_of files name) (Err r) (Err s) h k in
     let same : r ≡ s = cc in ap InGraph same
 refused_once limits files Graph name (InGraph r) (InKeys s) h k = absurd k
+refused_once limits files Graph name (InGraph r) (InProof s) h k = absurd k
 refused_once limits files Graph name (InGraph r) (MorePairsThan n) h k = absurd k
 refused_once limits files Graph name (InKeys r) s h k = absurd h
+refused_once limits files Graph name (InProof r) s h k = absurd h
 refused_once limits files Graph name (MorePairsThan n) s h k = absurd h
 refused_once limits files Keys name (InKeys r) (InKeys s) h k =
     let one : Err r ≡ Err s = keys_once limits.key_bytes (bytes_of files name) (Err r) (Err s) h k in
     let same : r ≡ s = cc in ap InKeys same
 refused_once limits files Keys name (InKeys r) (InGraph s) h k = absurd k
+refused_once limits files Keys name (InKeys r) (InProof s) h k = absurd k
 refused_once limits files Keys name (InKeys r) (MorePairsThan n) h k = absurd k
 refused_once limits files Keys name (InGraph r) s h k = absurd h
+refused_once limits files Keys name (InProof r) s h k = absurd h
 refused_once limits files Keys name (MorePairsThan n) s h k = absurd h
+refused_once limits files Proof name (InProof r) (InProof s) h k =
+    let one : Err r ≡ Err s = proof_once limits.bytes (bytes_of files name) (Err r) (Err s) h k in
+    let same : r ≡ s = cc in ap InProof same
+refused_once limits files Proof name (InProof r) (InGraph s) h k = absurd k
+refused_once limits files Proof name (InProof r) (InKeys s) h k = absurd k
+refused_once limits files Proof name (InProof r) (MorePairsThan n) h k = absurd k
+refused_once limits files Proof name (InGraph r) s h k = absurd h
+refused_once limits files Proof name (InKeys r) s h k = absurd h
+refused_once limits files Proof name (MorePairsThan n) s h k = absurd h
 
 not_both : (limits : Limits) (files : NamedFiles) (file : File) (name : List ℕ) (r : Refusal) → IsRefusedSo limits files file name r → IsAccepted limits files file name → ⊥
 not_both limits files Graph name (InGraph r) h k =
     let one : Err r ≡ Ok k.0 = file_once limits (bytes_of files name) (Err r) (Ok k.0) h k.1 in cc
 not_both limits files Graph name (InKeys r) h k = h
+not_both limits files Graph name (InProof r) h k = h
 not_both limits files Keys name (InKeys r) h k =
     let one : Err r ≡ Ok k.0 = keys_once limits.key_bytes (bytes_of files name) (Err r) (Ok k.0) h k.1 in cc
 not_both limits files Keys name (InGraph r) h k = h
+not_both limits files Keys name (InProof r) h k = h
+not_both limits files Proof name (InProof r) h k =
+    let one : Err r ≡ Ok k.0 = proof_once limits.bytes (bytes_of files name) (Err r) (Ok k.0) h k.1 in cc
+not_both limits files Proof name (InGraph r) h k = h
+not_both limits files Proof name (InKeys r) h k = h
+not_both limits files Proof name (MorePairsThan n) h k = h
 not_both limits files Graph name (MorePairsThan n) h k = h
 not_both limits files Keys name (MorePairsThan n) h k = h
 
@@ -308,6 +335,7 @@ module _ {K O E : Type 0} (shelf : Shelf.Ghosts K) (out : Sink.Ghosts O) (err : 
   one_of (Refused refusal) d = subst IsOneOf (sym d.0) refl
   one_of NoMemory d = subst IsOneOf (sym d.0) refl
   one_of (Done Given text) (inl w) = subst IsOneOf (sym w.0) refl
+  one_of (Done NotAccepted text) (inl w) = subst IsOneOf (sym w.0) refl
   one_of (Done answer text) (inr w) = subst IsOneOf (sym w.0) refl
 
   -- the whole contract

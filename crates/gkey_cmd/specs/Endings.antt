@@ -10,18 +10,19 @@ use Rattle.gk_io.specs.declared.file_fault.FileFault.TheVariants as fault
 use Rattle.gk_io.specs.declared.shelf.Shelf
 use Rattle.gk_io.specs.declared.sink.Sink
 use Rattle.key_lang.specs.declared.fault.KeyRefusal.{KeyRefusal}
+use Rattle.proof_graph.specs.declared.fault.ProofRefusal.{ProofRefusal}
 use Rattle.graph_rows.specs.GraphFile.{GraphStops}
 use Rattle.gkey_cmd.specs.Commands.{Wanted}
 use Rattle.gkey_cmd.specs.Texts.{usage, out_of_memory, write_failed, read_failed, refused_text}
 use Rattle.gkey_cmd.specs.Reading.{IsRefusedSo, AllAccepted}
-use Rattle.gkey_cmd.specs.HowFar.{KeysLeft, LeavesFiles, StopsReading}
+use Rattle.gkey_cmd.specs.HowFar.{KeysLeft, ProofLeft, LeavesFiles, StopsReading}
 use Rattle.gkey_cmd.specs.Failing.{HasFailed}
 use Rattle.gkey_cmd.specs.Sent.{TookAll, TookLess, Sent}
 use Rattle.gkey_cmd.specs.Written.{status_of, IsRefused, IsAnswered}
 use Rattle.gkey_cmd.specs.declared.file.File.{File}
-use Rattle.gkey_cmd.specs.declared.file.File.TheVariants.{Graph, Keys}
+use Rattle.gkey_cmd.specs.declared.file.File.TheVariants.{Graph, Keys, Proof}
 use Rattle.gkey_cmd.specs.declared.ending.Refusal.{Refusal}
-use Rattle.gkey_cmd.specs.declared.ending.Refusal.TheVariants.{InGraph, InKeys, MorePairsThan}
+use Rattle.gkey_cmd.specs.declared.ending.Refusal.TheVariants.{InGraph, InKeys, InProof, MorePairsThan}
 use Rattle.gkey_cmd.specs.declared.ending.Ending.{Ending}
 use Rattle.gkey_cmd.specs.declared.ending.Ending.TheVariants.{NoCommand, Failed, Refused, NoMemory, Done}
 
@@ -38,14 +39,25 @@ abbrev pub keys_ending : Stop KeyRefusal → Ending
 keys_ending stop.NoMemory = NoMemory
 keys_ending (stop.Fault refusal) = Refused (InKeys refusal)
 
+-- the ending of a run whose proof file says no proof
+abbrev pub proof_ending : Stop ProofRefusal → Ending
+proof_ending stop.NoMemory = NoMemory
+proof_ending (stop.Fault refusal) = Refused (InProof refusal)
+
 -- how far a file was read that is refused so
 abbrev pub StopsAt : {K : Type 0} (shelf : Shelf.Ghosts K) (shelf_before shelf_after : K) → Limits → File → (name : List ℕ) → Refusal → Type 0
 StopsAt shelf shelf_before shelf_after limits Graph name (InGraph refusal) = GraphStops shelf shelf_before shelf_after limits name
 StopsAt shelf shelf_before shelf_after limits Graph name (InKeys refusal) = ⊥
+StopsAt shelf shelf_before shelf_after limits Graph name (InProof refusal) = ⊥
 StopsAt shelf shelf_before shelf_after limits Graph name (MorePairsThan limit) = ⊥
 StopsAt shelf shelf_before shelf_after limits Keys name (InGraph refusal) = ⊥
 StopsAt shelf shelf_before shelf_after limits Keys name (InKeys refusal) = KeysLeft shelf shelf_before shelf_after limits name
+StopsAt shelf shelf_before shelf_after limits Keys name (InProof refusal) = ⊥
 StopsAt shelf shelf_before shelf_after limits Keys name (MorePairsThan limit) = ⊥
+StopsAt shelf shelf_before shelf_after limits Proof name (InGraph refusal) = ⊥
+StopsAt shelf shelf_before shelf_after limits Proof name (InKeys refusal) = ⊥
+StopsAt shelf shelf_before shelf_after limits Proof name (InProof refusal) = ProofLeft shelf shelf_before shelf_after limits name
+StopsAt shelf shelf_before shelf_after limits Proof name (MorePairsThan limit) = ⊥
 
 -- this file was read under this name, and the run ends at it
 abbrev pub EndsAt : {K : Type 0} (shelf : Shelf.Ghosts K) (shelf_before shelf_after : K) → Limits → File → (name : List ℕ) → Ending → Type 0

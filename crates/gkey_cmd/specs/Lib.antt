@@ -6,8 +6,11 @@ pub mod HowFar
 pub mod Failing
 pub mod Sent
 pub mod Matched
+pub mod Proved
+pub mod Checked
 pub mod Written
 pub mod Run
 -- inner invariants and words of the proofs
-pub mod MatchEnds
+pub mod ChaseEnds
+pub mod Told
 pub mod Endings

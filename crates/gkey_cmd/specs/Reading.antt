@@ -8,10 +8,13 @@ use Rattle.nt_reader.specs.File.{FileSays}
 use Rattle.key_file.specs.KeyShape.{KeyShape}
 use Rattle.key_lang.specs.KeyText.{KeysSay}
 use Rattle.key_lang.specs.declared.fault.KeyRefusal.{KeyRefusal}
+use Rattle.proof_graph.specs.Steps.{StepShape}
+use Rattle.proof_graph.specs.ProofText.{ProofSays}
+use Rattle.proof_graph.specs.declared.fault.ProofRefusal.{ProofRefusal}
 use Rattle.gkey_cmd.specs.declared.file.File.{File}
-use Rattle.gkey_cmd.specs.declared.file.File.TheVariants.{Graph, Keys}
+use Rattle.gkey_cmd.specs.declared.file.File.TheVariants.{Graph, Keys, Proof}
 use Rattle.gkey_cmd.specs.declared.ending.Refusal.{Refusal}
-use Rattle.gkey_cmd.specs.declared.ending.Refusal.TheVariants.{InGraph, InKeys, MorePairsThan}
+use Rattle.gkey_cmd.specs.declared.ending.Refusal.TheVariants.{InGraph, InKeys, InProof, MorePairsThan}
 
 -- files by name, as a shelf tells them
 abbrev pub NamedFiles : Type 0
@@ -25,19 +28,30 @@ GraphSays limits bytes answer = FileSays limits bytes answer
 abbrev pub KeyFileSays : Limits → List ℕ → Result (List KeyShape) KeyRefusal → Type 0
 KeyFileSays limits bytes answer = KeysSay limits.key_bytes bytes answer
 
+-- what the bytes of a proof file say: its steps, or the first refused line
+abbrev pub ProofFileSays : Limits → List ℕ → Result (List StepShape) ProofRefusal → Type 0
+ProofFileSays limits bytes answer = ProofSays limits.bytes bytes answer
+
 -- the file under this name is accepted
 abbrev pub IsAccepted : Limits → NamedFiles → File → List ℕ → Type 0
 IsAccepted limits files Graph name = (triples : List Triple) × GraphSays limits (bytes_of files name) (Ok triples)
 IsAccepted limits files Keys name = (keys : List KeyShape) × KeyFileSays limits (bytes_of files name) (Ok keys)
+IsAccepted limits files Proof name = (steps : List StepShape) × ProofFileSays limits (bytes_of files name) (Ok steps)
 
 -- it is refused so
 abbrev pub IsRefusedSo : Limits → NamedFiles → File → List ℕ → Refusal → Type 0
 IsRefusedSo limits files Graph name (InGraph refusal) = GraphSays limits (bytes_of files name) (Err refusal)
 IsRefusedSo limits files Graph name (InKeys refusal) = ⊥
+IsRefusedSo limits files Graph name (InProof refusal) = ⊥
 IsRefusedSo limits files Graph name (MorePairsThan limit) = ⊥
 IsRefusedSo limits files Keys name (InGraph refusal) = ⊥
 IsRefusedSo limits files Keys name (InKeys refusal) = KeyFileSays limits (bytes_of files name) (Err refusal)
+IsRefusedSo limits files Keys name (InProof refusal) = ⊥
 IsRefusedSo limits files Keys name (MorePairsThan limit) = ⊥
+IsRefusedSo limits files Proof name (InGraph refusal) = ⊥
+IsRefusedSo limits files Proof name (InKeys refusal) = ⊥
+IsRefusedSo limits files Proof name (InProof refusal) = ProofFileSays limits (bytes_of files name) (Err refusal)
+IsRefusedSo limits files Proof name (MorePairsThan limit) = ⊥
 
 -- each of these files is accepted
 abbrev pub AllAccepted : Limits → NamedFiles → List (File × List ℕ) → Type 0

@@ -37,7 +37,8 @@ pub record IsRun {S O E : Type 0} (shelf : Shelf.Ghosts S) (out : Sink.Ghosts O)
       × IfSome (shelf.held shelf_before) (λ files. IsAnswered command files limits answer output))
   -- 2: the text names the refusal, and it is so of the files where they are told. Where it is one of the graph, the graph
   -- was asked for last, and of its bytes fewer than 65,536 are read beyond the one at which it is refused; else the key
-  -- file was asked for last, and no more than one byte is read beyond its limit.
+  -- file or the proof file that is refused was asked for last, or the key file where there are too many pairs, and no more
+  -- than one byte is read beyond its limit.
   pub stops_reading : status ≡ 2 → (refusal : Refusal) × Sent err err_before err_after (refused_text refusal)
       × IfSome (shelf.held shelf_before) (λ files. IsRefused command files limits refusal)
       × StopsReading shelf shelf_before shelf_after command limits refusal
@@ -50,7 +51,7 @@ pub record IsRun {S O E : Type 0} (shelf : Shelf.Ghosts S) (out : Sink.Ghosts O)
       × TookLess out out_before out_after output
       × IfSome (shelf.held shelf_before) (λ files. IsAnswered command files limits answer output))
   pub wrote : status ≢ 4 → out.faults out_after ≡ out.faults out_before
-  -- 0, 1 and 4 come after the last file: the key file was asked for last, and no more than one byte is read beyond its limit.
+  -- 0, 1 and 4 come after the last file: it was asked for last, and no more than one byte is read beyond its limit.
   pub leaves_files : IsAnswer status ⊎ (status ≡ 4) → (wanted : Wanted) × (command ≡ Some wanted)
       × LeavesFiles shelf shelf_before shelf_after wanted limits
   -- 5 may come at any time.

@@ -3,14 +3,15 @@ use Rattle.std.specs.Prelude.{List, ℕ, ◌++◌, codes}
 use Rattle.std.specs.Fmt.{decimal}
 use Rattle.gk_base.specs.Faults.{read_text}
 use Rattle.key_lang.specs.Faults.{key_fault_text}
+use Rattle.proof_graph.specs.Faults.{proof_fault_text}
 use Rattle.gkey_cmd.specs.declared.file.File.{File}
-use Rattle.gkey_cmd.specs.declared.file.File.TheVariants.{Graph, Keys}
+use Rattle.gkey_cmd.specs.declared.file.File.TheVariants.{Graph, Keys, Proof}
 use Rattle.gkey_cmd.specs.declared.ending.Refusal.{Refusal}
-use Rattle.gkey_cmd.specs.declared.ending.Refusal.TheVariants.{InGraph, InKeys, MorePairsThan}
+use Rattle.gkey_cmd.specs.declared.ending.Refusal.TheVariants.{InGraph, InKeys, InProof, MorePairsThan}
 
 -- the usage text
 abbrev pub usage : List ℕ
-usage = codes "usage:\n  gkey match GRAPH KEYS\n"
+usage = codes "usage:\n  gkey match GRAPH KEYS\n  gkey prove GRAPH KEYS\n  gkey check GRAPH KEYS PROOF\n  gkey convert PROOF\n"
 
 -- the texts of want of memory and of a failed write
 abbrev pub out_of_memory : List ℕ
@@ -23,6 +24,7 @@ write_failed = codes "output: write failed\n"
 abbrev pub file_text : File → List ℕ
 file_text Graph = codes "graph"
 file_text Keys = codes "keys"
+file_text Proof = codes "proof"
 
 -- the text of a file that could not be found or read
 abbrev pub read_failed : File → List ℕ
@@ -40,4 +42,5 @@ pairs_text limit = codes "pairs: more than " ++ decimal limit ++ codes "\n"
 abbrev pub refused_text : Refusal → List ℕ
 refused_text (InGraph refusal) = line_text Graph refusal.line (read_text refusal.fault)
 refused_text (InKeys refusal) = line_text Keys refusal.line (key_fault_text refusal.fault)
+refused_text (InProof refusal) = line_text Proof refusal.line (proof_fault_text refusal.fault)
 refused_text (MorePairsThan limit) = pairs_text limit

@@ -4,18 +4,24 @@ use Rattle.gk_base.specs.declared.limits.Limits.{Limits}
 use Rattle.gk_base.specs.declared.term.Triple.{Triple}
 use Rattle.gk_io.specs.Files.{bytes_of}
 use Rattle.key_file.specs.KeyShape.{KeyShape}
-use Rattle.gkey_cmd.specs.Commands.{Wanted, Matching, files_of}
+use Rattle.gkey_cmd.specs.Commands.{Wanted, Matching, Proving, Checking, Converting, files_of}
 use Rattle.gkey_cmd.specs.Texts.{usage, refused_text}
-use Rattle.gkey_cmd.specs.Reading.{NamedFiles, GraphSays, KeyFileSays, AllAccepted, FirstRefused}
+use Rattle.gkey_cmd.specs.Reading.{NamedFiles, GraphSays, KeyFileSays, ProofFileSays, AllAccepted, FirstRefused}
+use Rattle.proof_graph.specs.Steps.{StepShape}
+use Rattle.proof_graph.specs.CanonicalProof.{proof_text}
+use Rattle.proof_check.specs.Verdict.{verdict}
 use Rattle.gkey_cmd.specs.Matched.{IsReport, HasTooManyPairs}
+use Rattle.gkey_cmd.specs.Proved.{IsProofText}
+use Rattle.gkey_cmd.specs.Checked.{verdict_answer, verdict_text}
 use Rattle.gkey_cmd.specs.declared.ending.Answer.{Answer}
-use Rattle.gkey_cmd.specs.declared.ending.Answer.TheVariants.{Given}
+use Rattle.gkey_cmd.specs.declared.ending.Answer.TheVariants.{Given, NotAccepted}
 use Rattle.gkey_cmd.specs.declared.ending.Refusal.{Refusal}
 use Rattle.gkey_cmd.specs.declared.ending.Refusal.TheVariants.{MorePairsThan}
 
 -- the status of an answer
 abbrev pub status_of : Answer → ℕ
 status_of Given = 0
+status_of NotAccepted = 1
 
 -- a status that stands for an answer
 abbrev pub IsAnswer : ℕ → Type 0
@@ -28,17 +34,36 @@ pub record AreAtMostStandard (limits : Limits) : Type 0 where
   pub triples : limits.triples ≤ 2 ^ 22
   pub pairs : limits.pairs ≤ 2 ^ 26
 
--- the accepted files of a command lead to more candidate pairs than the limit
-abbrev pub HasMorePairs : Limits → NamedFiles → Wanted → Type 0
-HasMorePairs limits files (Matching graph keys) =
+-- an accepted graph and accepted keys lead to more candidate pairs than the limit
+abbrev pub ChaseHasMorePairs : Limits → NamedFiles → (graph keys : List ℕ) → Type 0
+ChaseHasMorePairs limits files graph keys =
     (triples : List Triple) × (key_list : List KeyShape) × GraphSays limits (bytes_of files graph) (Ok triples)
     × KeyFileSays limits (bytes_of files keys) (Ok key_list) × HasTooManyPairs triples key_list limits.pairs
+
+-- the accepted files of a command lead to more candidate pairs than the limit; only a chase has pairs
+abbrev pub HasMorePairs : Limits → NamedFiles → Wanted → Type 0
+HasMorePairs limits files (Matching graph keys) = ChaseHasMorePairs limits files graph keys
+HasMorePairs limits files (Proving graph keys) = ChaseHasMorePairs limits files graph keys
+HasMorePairs limits files (Checking graph keys proof) = ⊥
+HasMorePairs limits files (Converting proof) = ⊥
 
 -- the answer of a command whose files are accepted and lead to no more pairs than the limit, and its output
 abbrev pub Answers : Limits → NamedFiles → Wanted → Answer → List ℕ → Type 0
 Answers limits files (Matching graph keys) Given output =
     (triples : List Triple) × (key_list : List KeyShape) × GraphSays limits (bytes_of files graph) (Ok triples)
     × KeyFileSays limits (bytes_of files keys) (Ok key_list) × IsReport triples key_list output
+Answers limits files (Matching graph keys) NotAccepted output = ⊥
+Answers limits files (Proving graph keys) Given output =
+    (triples : List Triple) × (key_list : List KeyShape) × GraphSays limits (bytes_of files graph) (Ok triples)
+    × KeyFileSays limits (bytes_of files keys) (Ok key_list) × IsProofText triples key_list output
+Answers limits files (Proving graph keys) NotAccepted output = ⊥
+Answers limits files (Checking graph keys proof) answer output =
+    (triples : List Triple) × (key_list : List KeyShape) × (steps : List StepShape) × GraphSays limits (bytes_of files graph) (Ok triples)
+    × KeyFileSays limits (bytes_of files keys) (Ok key_list) × ProofFileSays limits (bytes_of files proof) (Ok steps)
+    × (answer ≡ verdict_answer (verdict triples key_list steps)) × (output ≡ verdict_text (verdict triples key_list steps))
+Answers limits files (Converting proof) Given output =
+    (steps : List StepShape) × ProofFileSays limits (bytes_of files proof) (Ok steps) × (output ≡ proof_text steps)
+Answers limits files (Converting proof) NotAccepted output = ⊥
 
 -- The words ask for a command, and it is refused so: by the first of its files that is not accepted, or, where all are,
 -- by too many pairs.

@@ -3,16 +3,17 @@
 ghost use Rattle.std.specs.Prelude.{◌≡◌, MatchResult};
 ghost use Rattle.gkey_cmd.specs.Written.{status_of};
 ghost use Rattle.gkey_cmd.specs.Sent.{TookAll, TookLess, Sent};
-ghost use Rattle.gkey_cmd.specs.Endings.{graph_ending, keys_ending, IsTold};
+ghost use Rattle.gkey_cmd.specs.Endings.{graph_ending, keys_ending, proof_ending, IsTold};
 
 use crate::file::File;
 use crate::texts::{
-    DONE, NO_COMMAND, NO_MEMORY, OUT_OF_MEMORY, REFUSED, UNREAD, UNWRITTEN, USAGE, WRITE_FAILED,
-    read_failed, refused_text,
+    DONE, NO_COMMAND, NO_MEMORY, NOT_ACCEPTED, OUT_OF_MEMORY, REFUSED, UNREAD, UNWRITTEN, USAGE,
+    WRITE_FAILED, read_failed, refused_text,
 };
 use gk_base::{NoMemory, ReadRefusal, Stop};
 use gk_io::{Failed, FileFault, FileStop, Sink, write_all};
 use key_lang::{KeyRefusal, KeyStop};
+use proof_graph::{ProofRefusal, ProofStop};
 use std::alloc::Global;
 
 /// The answer of a run that comes to its end.
@@ -20,6 +21,8 @@ use std::alloc::Global;
 pub enum Answer {
     /// The command did what it is for.
     Given,
+    /// It looked at a proof, and does not accept it.
+    NotAccepted,
 }
 
 impl Answer {
@@ -29,6 +32,7 @@ impl Answer {
     {
         match self {
             Answer::Given => DONE,
+            Answer::NotAccepted => NOT_ACCEPTED,
         }
     }
 }
@@ -40,6 +44,8 @@ pub enum Refusal {
     InGraph(ReadRefusal),
     /// The key file, at this line.
     InKeys(KeyRefusal),
+    /// The proof file, at this line.
+    InProof(ProofRefusal),
     /// There are more candidate pairs than this limit.
     MorePairsThan(u64),
 }
@@ -57,6 +63,17 @@ pub enum Ending {
     NoMemory,
     /// The answer, with the text for the output.
     Done(Answer, Vec<u8>),
+}
+
+/// The ending of a run that wants memory once its files are read.
+impl From<NoMemory> for Ending {
+    ghost use Rattle.gkey_cmd.specs.declared.ending.Ending.TheVariants as ending;
+
+    ghost from_gives = { λ _ e. e ≡ ending.NoMemory };
+
+    fn from(_: NoMemory) -> Self {
+        Ending::NoMemory
+    }
 }
 
 /// The ending of a run whose graph is not to be had.
@@ -80,6 +97,18 @@ impl From<KeyStop> for Ending {
         match stop {
             Stop::NoMemory => Ending::NoMemory,
             Stop::Fault(refusal) => Ending::Refused(Refusal::InKeys(refusal)),
+        }
+    }
+}
+
+/// The ending of a run whose proof file says no proof.
+impl From<ProofStop> for Ending {
+    ghost from_gives = { λ stop e. e ≡ proof_ending stop };
+
+    fn from(stop: ProofStop) -> Self {
+        match stop {
+            Stop::NoMemory => Ending::NoMemory,
+            Stop::Fault(refusal) => Ending::Refused(Refusal::InProof(refusal)),
         }
     }
 }

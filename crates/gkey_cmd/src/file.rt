@@ -7,4 +7,6 @@ pub enum File {
     Graph,
     /// The key file.
     Keys,
+    /// The proof file.
+    Proof,
 }

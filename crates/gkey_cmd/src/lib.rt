@@ -1,20 +1,23 @@
 //! The commands of `gkey`, whole but for the system's files and streams: what the words ask for, the files in the order
-//! in which they are read, the chase, and the one text that is written at the end. `run` is all that the program does;
+//! in which they are read, the chase or the checker, and the one text that is written at the end. `run` is all that the program does;
 //! its contract relates the words and the files to status, output and error text, and gives each answer its cause.
 //!
 //! - `words`: the commands and the words that ask for them
 //! - `file`: the files that a command reads
 //! - `order`: the order in which they are read, and what comes after the last
-//! - `matched`: what `match` prints
+//! - `matched`, `proved`, `checked`, `converted`: what each command prints
 //! - `ending`: how a run ends, and what it leaves
 //! - `texts`: each status with its meaning and the text for the error stream
 //! - `top`: `run`
 #![tactic(auto)]
 
+mod checked;
+mod converted;
 mod ending;
 mod file;
 mod matched;
 mod order;
+mod proved;
 mod texts;
 mod top;
 mod words;

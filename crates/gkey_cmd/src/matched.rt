@@ -4,7 +4,7 @@ ghost use Rattle.std.specs.Prelude.{◌≡◌, ◌<◌, ◌^◌, ◌-◌, List, 
 ghost use Rattle.gk_base.specs.declared.term.Triple.{Triple as AnyTriple};
 ghost use Rattle.graph_rows.specs.Rows.{StandFor, AreFew};
 ghost use Rattle.gkey_cmd.specs.Matched.{IsReport, HasTooManyPairs};
-ghost use Rattle.gkey_cmd.specs.MatchEnds.{IsRightMatchStop, MatchEnds};
+ghost use Rattle.gkey_cmd.specs.ChaseEnds.{IsRightChaseStop, MatchEnds};
 
 use crate::ending::{Ending, Refusal};
 use chase_laws::laws::law_rows;
@@ -24,7 +24,7 @@ fn report_of(alloc: Global, rows: Rows, keys: &KeyFile, limit: u64) -> Result<Ve
     requires limit { limit < 2 ^ 32 }
     ensures report { IfOk result (λ text. (triples : List AnyTriple) → StandFor rows triples → IsReport triples keys.now text.items) }
     ensures no_more { OnOk result ((triples : List AnyTriple) → StandFor rows triples → ¬ (HasTooManyPairs triples keys.now limit)) }
-    ensures stop { IfErr result (λ stop. (triples : List AnyTriple) → StandFor rows triples → IsRightMatchStop triples keys.now limit stop) }
+    ensures stop { IfErr result (λ stop. (triples : List AnyTriple) → StandFor rows triples → IsRightChaseStop triples keys.now limit stop) }
 {
     law_rows();
     let numbered = number(alloc, rows, keys)?;

@@ -1,20 +1,24 @@
 //! The order in which the files of a command are read, up to the first that fails or is refused, and what comes after the last.
 
-ghost use Rattle.std.specs.Prelude.{◌≡◌, Ok, IfOk, IfErr, OnOk, IfSome, MatchResult};
+ghost use Rattle.std.specs.Prelude.{◌≡◌, ◌<◌, ◌^◌, Ok, length, take, IfOk, IfErr, OnOk, IfSome, MatchResult};
 ghost use Rattle.gk_io.specs.Files.{bytes_of};
-ghost use Rattle.gkey_cmd.specs.Commands.{Matching};
-ghost use Rattle.gkey_cmd.specs.Reading.{KeyFileSays};
+ghost use Rattle.gkey_cmd.specs.Commands.{Matching, Proving, Checking, Converting};
+ghost use Rattle.gkey_cmd.specs.Reading.{KeyFileSays, ProofFileSays};
 ghost use Rattle.gkey_cmd.specs.Written.{AreAtMostStandard};
-ghost use Rattle.gkey_cmd.specs.HowFar.{KeysLeft};
+ghost use Rattle.gkey_cmd.specs.HowFar.{KeysLeft, ProofLeft};
 ghost use Rattle.gkey_cmd.specs.Endings.{EndsAt, Stopped};
 
+use crate::checked::check_files;
+use crate::converted::convert_file;
 use crate::ending::{Answer, Ending};
 use crate::file::File;
 use crate::matched::match_files;
+use crate::proved::prove_files;
 use gk_base::{Limits, Stop, Text};
 use gk_io::{Failed, Shelf};
-use graph_rows::{load, read_rows};
+use graph_rows::{load, read_rows, read_triples};
 use key_lang::KeyFile;
+use proof_graph::Proof;
 use std::alloc::Global;
 
 /// The keys of the key file, or the ending of a run that can't have them. It is loaded whole before it is judged.
@@ -39,6 +43,29 @@ fn read_keys<S: Shelf>(
     Ok(key_lang::read_keys(alloc, &bytes, limits.key_bytes)?)
 }
 
+/// The proof of the proof file, or the ending of a run that can't have it. It is loaded whole before it is judged.
+fn read_proof<S: Shelf>(
+    alloc: Global,
+    shelf: &mut S,
+    name: &Text,
+    limits: &Limits,
+) -> Result<Proof, Ending>
+    requires { AreAtMostStandard limits.now }
+    ensures held { S.held shelf.new ≡ S.held shelf.old }
+    ensures count { OnOk result (S.faults shelf.new ≡ S.faults shelf.old) }
+    ensures says { IfOk result (λ proof. IfSome (S.held shelf.old) (λ files. ProofFileSays limits.now (bytes_of files name.now) (Ok proof))) }
+    ensures few { IfOk result (λ proof. length proof < 2 ^ 32) }
+    ensures left { OnOk result (ProofLeft S.Shelf shelf.old shelf.new limits.now name.now) }
+    ensures ends { IfErr result (EndsAt S.Shelf shelf.old shelf.new limits.now File.Proof name.now) }
+{
+    let bytes = match load(alloc, shelf, name, limits.bytes) {
+        Ok(bytes) => bytes,
+        Err(Stop::NoMemory) => return Err(Ending::NoMemory),
+        Err(Stop::Fault(Failed)) => return Err(Ending::Failed(File::Proof)),
+    };
+    Ok(proof_graph::read_proof(alloc, &bytes, limits.bytes)?)
+}
+
 /// The report of `match`, or the ending of a run that has none: the graph comes first, then the key file, then the chase.
 pub(crate) fn matched<S: Shelf>(
     alloc: Global,
@@ -54,4 +81,58 @@ pub(crate) fn matched<S: Shelf>(
     let rows = read_rows(alloc, shelf, graph, limits)?;
     let read = read_keys(alloc, shelf, keys, limits)?;
     match_files(alloc, rows, &read, limits.pairs)
+}
+
+/// The proof of `prove`, or the ending of a run that has none: the files come as for `match`, then the chase.
+pub(crate) fn proved<S: Shelf>(
+    alloc: Global,
+    shelf: &mut S,
+    graph: &Text,
+    keys: &Text,
+    limits: &Limits,
+) -> Result<Vec<u8>, Ending>
+    requires { AreAtMostStandard limits.now }
+    ensures { let Stops = Stopped S.Shelf shelf.old shelf.new (Proving graph.now keys.now) limits.now in
+        MatchResult result (λ text. Stops (Ending.Done Answer.Given text)) Stops }
+{
+    let numbered = read_rows(alloc, shelf, graph, limits)?;
+    let known = read_keys(alloc, shelf, keys, limits)?;
+    prove_files(alloc, numbered, &known, limits.pairs)
+}
+
+/// The answer of `check` and its text, or the ending of a run that has none: the graph comes first, then the key file, then
+/// the proof file, then the checker.
+pub(crate) fn checked<S: Shelf>(
+    alloc: Global,
+    shelf: &mut S,
+    graph: &Text,
+    keys: &Text,
+    proof: &Text,
+    limits: &Limits,
+) -> Result<(Answer, Vec<u8>), Ending>
+    requires { AreAtMostStandard limits.now }
+    ensures { let Stops = Stopped S.Shelf shelf.old shelf.new (Checking graph.now keys.now proof.now) limits.now in
+        MatchResult result (λ r. Stops (Ending.Done r.0 r.1)) Stops }
+{
+    let triples = read_triples(alloc, shelf, graph, limits)?;
+    let key_file = read_keys(alloc, shelf, keys, limits)?;
+    let told = read_proof(alloc, shelf, proof, limits)?;
+    let answer = check_files(alloc, &triples, &key_file, &told)?;
+    Ok(answer)
+}
+
+/// The text of `convert`, or the ending of a run that has none. Its one file is the proof file.
+pub(crate) fn converted<S: Shelf>(
+    alloc: Global,
+    shelf: &mut S,
+    proof: &Text,
+    limits: &Limits,
+) -> Result<Vec<u8>, Ending>
+    requires { AreAtMostStandard limits.now }
+    ensures { let Stops = Stopped S.Shelf shelf.old shelf.new (Converting proof.now) limits.now in
+        MatchResult result (λ text. Stops (Ending.Done Answer.Given text)) Stops }
+{
+    let given = read_proof(alloc, shelf, proof, limits)?;
+    let text = convert_file(alloc, &given)?;
+    Ok(text)
 }

@@ -1,5 +1,6 @@
 //! Each status of the program, with its meaning and the text that goes to the error stream with it. No other file has such a
-//! status or text, but that what is wrong with a line is said by the fault itself, in `gk_base` and `key_lang`.
+//! status or text, but that what is wrong with a line is said by the fault itself, in `gk_base`, `key_lang` and `proof_graph`,
+//! and what is wrong with a step of a proof by the reason, in `proof_check`.
 
 ghost use Rattle.std.specs.Prelude.{◌≡◌, IfOk};
 ghost use Rattle.gkey_cmd.specs.Texts.{file_text, read_failed, line_text, pairs_text, refused_text};
@@ -11,6 +12,9 @@ use std::alloc::Global;
 
 /// The command did what it is for. Its answer goes to the output, and the error stream gets no text.
 pub(crate) const DONE: u8 = 0;
+
+/// The proof is not accepted. That answer goes to the output, and the error stream gets no text.
+pub(crate) const NOT_ACCEPTED: u8 = 1;
 
 /// An input is refused. The text, `refused_text`, says which and why.
 pub(crate) const REFUSED: u8 = 2;
@@ -37,7 +41,7 @@ pub const NO_WORDS: u8 = 6;
 pub(crate) const NO_COMMAND: u8 = 64;
 
 /// The text of `NO_COMMAND`.
-pub(crate) const USAGE: &[u8] = b"usage:\n  gkey match GRAPH KEYS\n";
+pub(crate) const USAGE: &[u8] = b"usage:\n  gkey match GRAPH KEYS\n  gkey prove GRAPH KEYS\n  gkey check GRAPH KEYS PROOF\n  gkey convert PROOF\n";
 
 /// What a text calls a file.
 fn file_text(file: File) -> &'static [u8]
@@ -46,6 +50,7 @@ fn file_text(file: File) -> &'static [u8]
     match file {
         File::Graph => b"graph",
         File::Keys => b"keys",
+        File::Proof => b"proof",
     }
 }
 
@@ -56,6 +61,7 @@ pub(crate) fn read_failed(file: File) -> &'static [u8]
     match file {
         File::Graph => b"graph: read failed\n",
         File::Keys => b"keys: read failed\n",
+        File::Proof => b"proof: read failed\n",
     }
 }
 
@@ -89,6 +95,7 @@ pub(crate) fn refused_text(alloc: Global, refusal: Refusal) -> Result<Vec<u8>, N
     match refusal {
         Refusal::InGraph(at) => line_text(alloc, File::Graph, at.line, at.fault.text()),
         Refusal::InKeys(at) => line_text(alloc, File::Keys, at.line, at.fault.text()),
+        Refusal::InProof(at) => line_text(alloc, File::Proof, at.line, at.fault.text()),
         Refusal::MorePairsThan(limit) => pairs_text(alloc, limit),
     }
 }

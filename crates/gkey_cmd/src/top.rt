@@ -1,12 +1,13 @@
 //! The whole of a run: from the words to what is written at its end.
 
+ghost use Rattle.std.specs.Prelude.{◌≡◌, MatchResult};
 ghost use Rattle.gkey_cmd.specs.Commands.{wanted};
 ghost use Rattle.gkey_cmd.specs.Written.{AreAtMostStandard};
 ghost use Rattle.gkey_cmd.specs.Endings.{Caused};
 ghost use Rattle.gkey_cmd.specs.Run.{IsRun};
 
 use crate::ending::{Answer, Ending, finish};
-use crate::order::matched;
+use crate::order::{checked, converted, matched, proved};
 use crate::words::{Command, read_words};
 use gk_base::{Limits, Text};
 use gk_io::{Shelf, Sink};
@@ -14,17 +15,43 @@ use std::alloc::Global;
 use std::sync::Wait;
 use std::thread::Threads;
 
+/// The ending of a command that has one answer and its text, or has none.
+fn given(text: Result<Vec<u8>, Ending>) -> Ending
+    ensures { MatchResult text (λ t. result ≡ Ending.Done Answer.Given t) (λ ending. result ≡ ending) }
+{
+    match text {
+        Ok(text) => Ending::Done(Answer::Given, text),
+        Err(ending) => ending,
+    }
+}
+
+/// The ending of a command that has an answer and its text, or has none.
+fn answered(answer: Result<(Answer, Vec<u8>), Ending>) -> Ending
+    ensures { MatchResult answer (λ r. result ≡ Ending.Done r.0 r.1) (λ ending. result ≡ ending) }
+{
+    match answer {
+        Ok((answer, text)) => Ending::Done(answer, text),
+        Err(stop) => stop,
+    }
+}
+
 /// How a run ends before anything is written.
 fn decide<S: Shelf>(alloc: Global, words: &[Text], shelf: &mut S, limits: &Limits) -> Ending
     requires { AreAtMostStandard limits.now }
     ensures { Caused S.Shelf shelf.old shelf.new (wanted words.now) limits.now result }
 {
-    let Some(Command::Match { graph, keys, .. }) = read_words(words) else {
-        return Ending::NoCommand;
-    };
-    match matched(alloc, shelf, graph, keys, limits) {
-        Ok(text) => Ending::Done(Answer::Given, text),
-        Err(ending) => ending,
+    match read_words(words) {
+        None => Ending::NoCommand,
+        Some(Command::Match { graph, keys, .. }) => {
+            given(matched(alloc, shelf, graph, keys, limits))
+        }
+        Some(Command::Prove { graph, keys, .. }) => {
+            given(proved(alloc, shelf, graph, keys, limits))
+        }
+        Some(Command::Check { graph, keys, proof }) => {
+            answered(checked(alloc, shelf, graph, keys, proof, limits))
+        }
+        Some(Command::Convert { proof }) => given(converted(alloc, shelf, proof, limits)),
     }
 }
 
@@ -49,7 +76,8 @@ pub fn run_with<Rt: Threads + Wait + Sync, S: Shelf, O: Sink, E: Sink>(
     finish(alloc, &ending, out, err)
 }
 
-/// Does all that the program does, with its own limits, and gives the status: 0 where it is done, 2 where an input is
+/// Does all that the program does, with its own limits, and gives the status: 0 where it is done, 1 where a proof is
+/// not accepted, 2 where an input is
 /// refused, 3 where a file could not be read, 4 where the output could not be written, 5 for want of memory, 64 where the
 /// words ask for no command. What it leaves at each status, and why, is `IsRun` in `specs/Run.antt`.
 ///

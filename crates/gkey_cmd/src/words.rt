@@ -18,6 +18,21 @@ pub enum Command<'w> {
         graph: &'w Text,
         keys: &'w Text,
     },
+    /// Print a proof of all that is the same.
+    Prove {
+        /// How many workers search: 1 to 64.
+        workers: u32,
+        graph: &'w Text,
+        keys: &'w Text,
+    },
+    /// Say whether a proof is one.
+    Check {
+        graph: &'w Text,
+        keys: &'w Text,
+        proof: &'w Text,
+    },
+    /// Print a proof of either version in version 2.
+    Convert { proof: &'w Text },
 }
 
 /// The command that the words after the program's name ask for. None comes exactly where they ask for none. It takes
@@ -31,6 +46,17 @@ pub fn read_words<'w>(words: &'w [Text]) -> Option<Command<'w>>
             graph,
             keys,
         }),
+        [command, graph, keys] if command.bytes() == b"prove".as_slice() => Some(Command::Prove {
+            workers: WORKERS,
+            graph,
+            keys,
+        }),
+        [command, graph, keys, proof] if command.bytes() == b"check".as_slice() => {
+            Some(Command::Check { graph, keys, proof })
+        }
+        [command, proof] if command.bytes() == b"convert".as_slice() => {
+            Some(Command::Convert { proof })
+        }
         _ => None,
     }
 }

@@ -18,7 +18,7 @@ use Rattle.nt_reader.specs.Reading.{Front, Reading}
 use Rattle.nt_reader.specs.Kept.{IsStopped, HasCome, HasRead, FinishSays}
 use Rattle.nt_reader.proofs.CallerLemmas.{open_front}
 use Rattle.graph_rows.specs.Rows.{StandFor}
-use Rattle.graph_rows.specs.GraphFile.{StopsSoon, GraphStops, GivesRows}
+use Rattle.graph_rows.specs.GraphFile.{StopsSoon, GraphStops, StopsAtGraph, GivesRows, GivesTriples}
 use Rattle.graph_rows.specs.Feeding.{WereRead, Feeds, FeedsNext, FeedsAll}
 use Rattle.graph_rows.specs.declared.rows.Rows.{Rows}
 use Rattle.graph_rows.proofs.NumberedRows.{names_few}
@@ -119,11 +119,11 @@ feeds_no_more shelf before after room reader fed_reader piece (Fault refusal) h 
 
 -- ---- the loop
 
--- what was read, fed and numbered so far
-pub record HasFed {K : Type 0} (shelf : Shelf.Ghosts K) (old now : K) (limits : Limits) (reader : Reading) (rows : Rows) (taken : List Triple) (seen : List ℕ) : Type 0 where
+-- what was read and fed so far, and what is kept of the triples that were taken
+pub record HasFed {K : Type 0} (shelf : Shelf.Ghosts K) (old now : K) (limits : Limits) (reader : Reading) (Kept : List Triple → Type 0) (taken : List Triple) (seen : List ℕ) : Type 0 where
   pub read : WereRead shelf old now seen
   pub has : HasRead reader taken seen
-  pub stand : StandFor rows taken
+  pub stand : Kept taken
   pub same : reader.limits ≡ limits
   pub not_refused : IsOpen limits seen
 
@@ -144,10 +144,10 @@ pub fewer_left : (before after : Reading) (taken more : List Triple) (seen piece
     HasRead before taken seen → HasRead after more (seen ++ piece) → 0 < length piece → left_of after.limits.bytes after.so_far < left_of before.limits.bytes before.so_far
 fewer_left before after taken more seen piece same ok still h k some = fewer before.limits after.limits before.so_far after.so_far taken more seen piece same ok still h k some
 
-module _ {K : Type 0} (shelf : Shelf.Ghosts K) (old mid new : K) (limits : Limits) (room : ℕ) (before after : Reading) (rows : Rows) (taken : List Triple) (seen : List ℕ)
-    (so_far : HasFed shelf old mid limits before rows taken seen) (count : shelf.faults mid ≡ shelf.faults old) (same : after.limits ≡ before.limits) where
+module _ {K : Type 0} (shelf : Shelf.Ghosts K) (old mid new : K) (limits : Limits) (room : ℕ) (before after : Reading) (Kept : List Triple → Type 0) (taken : List Triple) (seen : List ℕ)
+    (so_far : HasFed shelf old mid limits before Kept taken seen) (count : shelf.faults mid ≡ shelf.faults old) (same : after.limits ≡ before.limits) where
   -- one piece more
-  pub fed_more : (n : ℕ) (next : FeedsNext shelf mid new room before after (Ok n)) → HasFed shelf old new limits after rows taken (seen ++ next.0)
+  pub fed_more : (n : ℕ) (next : FeedsNext shelf mid new room before after (Ok n)) → HasFed shelf old new limits after Kept taken (seen ++ next.0)
   fed_more n next =
       let has = next.1.fed taken seen so_far.has in record {
         read = were_read_more shelf old mid new seen next.0 so_far.read next.1.read;
@@ -158,10 +158,10 @@ module _ {K : Type 0} (shelf : Shelf.Ghosts K) (old mid new : K) (limits : Limit
       }
 
   -- the file is not read on
-  pub fed_no_more : (stop : Stop (FileFault ReadRefusal)) (left : Rows) → room ≤ 65536 → FeedsNext shelf mid new room before after (Err stop) → FeedsAll {A = Unit {0}} shelf old new limits after left (Err stop)
-  fed_no_more NoMemory left few next = next ∙ count
-  fed_no_more (Fault Failed) left few next = (subst (λ n. Rose n (shelf.faults new)) count next.0, next.1)
-  fed_no_more (Fault (Refused refusal)) left few next =
+  pub fed_no_more : (stop : Stop (FileFault ReadRefusal)) (Left : List Triple → Type 0) → room ≤ 65536 → FeedsNext shelf mid new room before after (Err stop) → FeedsAll {A = Unit {0}} shelf old new limits after Left (Err stop)
+  fed_no_more NoMemory Left few next = next ∙ count
+  fed_no_more (Fault Failed) Left few next = (subst (λ n. Rose n (shelf.faults new)) count next.0, next.1)
+  fed_no_more (Fault (Refused refusal)) Left few next =
       let inside = next.1.within in (
         next.1.count ∙ count,
         (
@@ -173,11 +173,11 @@ module _ {K : Type 0} (shelf : Shelf.Ghosts K) (old mid new : K) (limits : Limit
       )
 
 -- the triples that were taken are numbered
-pub fed_taken : {K : Type 0} (shelf : Shelf.Ghosts K) (old now : K) (limits : Limits) (before after : Reading) (rows more : Rows) (taken triples : List Triple) (seen : List ℕ) →
-    HasFed shelf old now limits before rows taken seen → after.limits ≡ before.limits →
+pub fed_taken : {K : Type 0} (shelf : Shelf.Ghosts K) (old now : K) (limits : Limits) (before after : Reading) (Kept Later : List Triple → Type 0) (taken triples : List Triple) (seen : List ℕ) →
+    HasFed shelf old now limits before Kept taken seen → after.limits ≡ before.limits →
     ((done : List Triple) (bytes : List ℕ) → HasRead before done bytes → HasRead after (done ++ triples) bytes) →
-    ((done : List Triple) → StandFor rows done → StandFor more (done ++ triples)) → HasFed shelf old now limits after more (taken ++ triples) seen
-fed_taken shelf old now limits before after rows more taken triples seen h same takes adds = record {
+    ((done : List Triple) → Kept done → Later (done ++ triples)) → HasFed shelf old now limits after Later (taken ++ triples) seen
+fed_taken shelf old now limits before after Kept Later taken triples seen h same takes adds = record {
   read = h.read;
   has = takes taken seen h.has;
   stand = adds taken h.stand;
@@ -195,13 +195,13 @@ taken_few reader rows taken triples seen running few stand h =
     omega arith
 
 -- the file was read to its end
-pub fed_all : {K : Type 0} (shelf : Shelf.Ghosts K) (old mid new : K) (limits : Limits) (room n : ℕ) (before after taker : Reading) (rows more : Rows) (taken triples : List Triple) (seen : List ℕ) →
-    HasFed shelf old mid limits before rows taken seen → shelf.faults mid ≡ shelf.faults old → (next : FeedsNext shelf mid new room before after (Ok n)) → n ≡ 0 →
-    HasFed shelf old new limits taker more (taken ++ triples) (seen ++ next.0) → FeedsAll {A = Unit {0}} shelf old new limits taker more (Ok tt)
-fed_all shelf old mid new limits room n before after taker rows more taken triples seen h count next z fed = (
+pub fed_all : {K : Type 0} (shelf : Shelf.Ghosts K) (old mid new : K) (limits : Limits) (room n : ℕ) (before after taker : Reading) (Kept Later : List Triple → Type 0) (taken now : List Triple) (seen : List ℕ) →
+    HasFed shelf old mid limits before Kept taken seen → shelf.faults mid ≡ shelf.faults old → (next : FeedsNext shelf mid new room before after (Ok n)) → n ≡ 0 →
+    HasFed shelf old new limits taker Later now (seen ++ next.0) → FeedsAll {A = Unit {0}} shelf old new limits taker Later (Ok tt)
+fed_all shelf old mid new limits room n before after taker Kept Later taken now seen h count next z fed = (
   next.1.count ∙ count,
   (
-    taken ++ triples,
+    now,
     seen ++ next.0,
     fed.read,
     all_fed (shelf.rest old) (shelf.rest mid) seen next.0 h.read (next.6 z) (sym next.2 ∙ z),
@@ -245,16 +245,16 @@ module _ {K : Type 0} (shelf : Shelf.Ghosts K) (old mid new : K) (limits : Limit
   )
 
   -- it was not read to its end
-  pub gives_no_more : (stop : Stop (FileFault ReadRefusal)) (seen : Limits) (after : Reading) (rows : Rows) → seen ≡ limits → FeedsAll {A = Unit {0}} shelf mid new seen after rows (Err stop) →
-      GivesRows shelf old new limits name (Err stop)
-  gives_no_more NoMemory seen after rows e h = h ∙ count
-  gives_no_more (Fault Failed) seen after rows e h = record {
+  pub gives_no_more : (stop : Stop (FileFault ReadRefusal)) (seen : Limits) (after : Reading) (Kept : List Triple → Type 0) → seen ≡ limits → FeedsAll {A = Unit {0}} shelf mid new seen after Kept (Err stop) →
+      StopsAtGraph shelf old new limits name stop
+  gives_no_more NoMemory seen after Kept e h = h ∙ count
+  gives_no_more (Fault Failed) seen after Kept e h = record {
     rose = subst (λ n. Rose n (shelf.faults new)) count h.0;
     asked_for = asked;
     is_bad = h.1;
   }
-  gives_no_more (Fault (Refused refusal)) seen after rows e h =
-      let k = subst (λ l. FeedsAll {A = Unit {0}} shelf mid new l after rows (Err (Fault (Refused refusal)))) e h in (
+  gives_no_more (Fault (Refused refusal)) seen after Kept e h =
+      let k = subst (λ l. FeedsAll {A = Unit {0}} shelf mid new l after Kept (Err (Fault (Refused refusal)))) e h in (
         k.0 ∙ count,
         told_more (shelf.held old) _ _ (λ files r. refused_says limits (bytes_of files name) k.1.0 (shelf.rest new) refusal k.1.2 r)
             (told_file (shelf.held old) (shelf.rest mid) name (λ all. IsSomeAnd (shelf.rest new) (λ r. all ≡ k.1.0 ++ r)) found k.1.1),
@@ -262,10 +262,10 @@ module _ {K : Type 0} (shelf : Shelf.Ghosts K) (old mid new : K) (limits : Limit
       )
 
   -- it was read to its end, and then refused
-  pub gives_no_rows : (stop : ReadStop) (seen : Limits) (after : Reading) (rows : Rows) → seen ≡ limits → after.limits ≡ seen → FeedsAll {A = Unit {0}} shelf mid new seen after rows (Ok tt) →
-      ((taken : List Triple) (bytes : List ℕ) → HasRead after taken bytes → IsSo (FinishSays after.limits taken bytes) (Err stop)) → GivesRows shelf old new limits name (Err (file_stop stop))
-  gives_no_rows NoMemory seen after rows e same h says = h.0 ∙ count
-  gives_no_rows (Fault refusal) seen after rows e same h says =
+  pub gives_nothing : (stop : ReadStop) (seen : Limits) (after : Reading) (Kept : List Triple → Type 0) → seen ≡ limits → after.limits ≡ seen → FeedsAll {A = Unit {0}} shelf mid new seen after Kept (Ok tt) →
+      ((taken : List Triple) (bytes : List ℕ) → HasRead after taken bytes → IsSo (FinishSays after.limits taken bytes) (Err stop)) → StopsAtGraph shelf old new limits name (file_stop stop)
+  gives_nothing NoMemory seen after Kept e same h says = h.0 ∙ count
+  gives_nothing (Fault refusal) seen after Kept e same h says =
       let gone = h.1.1 in
       let said : FileSays limits gone (Err refusal) = subst (λ l. FileSays l gone (Err refusal)) (same ∙ e) (says h.1.0 gone h.1.5) in (
         h.0 ∙ count,
@@ -274,7 +274,7 @@ module _ {K : Type 0} (shelf : Shelf.Ghosts K) (old mid new : K) (limits : Limit
         graph_stops gone h.1.2 (λ n le. open_front limits gone (subst (λ l. IsOpen l gone) e h.1.4) n),
       )
 
-  module _ (triples : List Triple) (seen : Limits) (after : Reading) (rows : Rows) (e : seen ≡ limits) (same : after.limits ≡ seen) (h : FeedsAll {A = Unit {0}} shelf mid new seen after rows (Ok tt))
+  module _ (triples : List Triple) (seen : Limits) (after : Reading) (rows : Rows) (e : seen ≡ limits) (same : after.limits ≡ seen) (h : FeedsAll {A = Unit {0}} shelf mid new seen after (StandFor rows) (Ok tt))
       (says : FileSays limits h.1.1 (Ok (h.1.0 ++ triples))) where
     -- the last triples are few
     pub last_few : limits.triples ≤ 2 ^ 22 → length rows.names + 3 * length triples < 2 ^ 32
@@ -298,3 +298,16 @@ module _ {K : Type 0} (shelf : Shelf.Ghosts K) (old mid new : K) (limits : Limit
         },
       ),
     )
+
+  -- it was read to its end, and its reader has all its triples
+  pub gives_triples : (triples : List Triple) (seen : Limits) (after : Reading) (h : FeedsAll {A = Unit {0}} shelf mid new seen after (λ taken. taken ≡ []) (Ok tt)) →
+      FileSays limits h.1.1 (Ok (h.1.0 ++ triples)) → GivesTriples shelf old new limits name (Ok triples)
+  gives_triples triples seen after h says =
+      let all : FileSays limits h.1.1 (Ok triples) = subst (λ taken. FileSays limits h.1.1 (Ok (taken ++ triples))) h.1.6 says in (
+        h.0 ∙ count,
+        record {
+          few = all.2;
+          says = told_more (shelf.held old) _ _ (λ files k. subst (λ b. FileSays limits b (Ok triples)) (sym k) all)
+              (told_file (shelf.held old) (shelf.rest mid) name (λ all. all ≡ h.1.1) found h.1.3);
+        },
+      )

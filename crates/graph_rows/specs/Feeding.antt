@@ -13,8 +13,6 @@ use Rattle.gk_io.specs.declared.shelf.Shelf
 use Rattle.nt_reader.specs.File.{IsOpen, Refuses}
 use Rattle.nt_reader.specs.Reading.{Reading}
 use Rattle.nt_reader.specs.Kept.{HasRead}
-use Rattle.graph_rows.specs.Rows.{StandFor}
-use Rattle.graph_rows.specs.declared.rows.Rows.{Rows}
 
 -- the shelf failed, whichever file was asked for last
 abbrev pub ShelfFails : {K : Type 0} (shelf : Shelf.Ghosts K) (before after : K) → Type 0
@@ -50,13 +48,13 @@ FeedsNext shelf before after room reader fed_reader (Err (Fault Failed)) = Shelf
 FeedsNext shelf before after room reader fed_reader (Err (Fault (Refused refusal))) = (piece : List ℕ) × Feeds shelf before after room reader fed_reader piece
     × ((taken : List Triple) (bytes : List ℕ) → HasRead fed_reader taken bytes → Refuses fed_reader.limits bytes refusal)
 
--- all that was left was read, fed and numbered, or why not
-abbrev pub FeedsAll : {K A : Type 0} (shelf : Shelf.Ghosts K) (before after : K) (limits : Limits) (fed_reader : Reading) (rows : Rows) → Result A (Stop (FileFault ReadRefusal)) → Type 0
-FeedsAll shelf before after limits fed_reader rows (Ok x) = (shelf.faults after ≡ shelf.faults before)
+-- all that was left was read and fed, and what is said of the triples that were taken holds; or why not
+abbrev pub FeedsAll : {K A : Type 0} (shelf : Shelf.Ghosts K) (before after : K) (limits : Limits) (fed_reader : Reading) (Kept : List Triple → Type 0) → Result A (Stop (FileFault ReadRefusal)) → Type 0
+FeedsAll shelf before after limits fed_reader Kept (Ok x) = (shelf.faults after ≡ shelf.faults before)
     × ((taken : List Triple) × (gone : List ℕ) × WereRead shelf before after gone × AreAll shelf before gone × IsOpen limits gone
-    × HasRead fed_reader taken gone × StandFor rows taken)
-FeedsAll shelf before after limits fed_reader rows (Err NoMemory) = shelf.faults after ≡ shelf.faults before
-FeedsAll shelf before after limits fed_reader rows (Err (Fault Failed)) = ShelfFails shelf before after
-FeedsAll shelf before after limits fed_reader rows (Err (Fault (Refused refusal))) = (shelf.faults after ≡ shelf.faults before)
+    × HasRead fed_reader taken gone × Kept taken)
+FeedsAll shelf before after limits fed_reader Kept (Err NoMemory) = shelf.faults after ≡ shelf.faults before
+FeedsAll shelf before after limits fed_reader Kept (Err (Fault Failed)) = ShelfFails shelf before after
+FeedsAll shelf before after limits fed_reader Kept (Err (Fault (Refused refusal))) = (shelf.faults after ≡ shelf.faults before)
     × ((gone : List ℕ) × WereRead shelf before after gone × Refuses limits gone refusal
     × ((n : ℕ) → n + 65536 ≤ length gone → IsOpen limits (take n gone)))

@@ -34,12 +34,26 @@ abbrev pub GraphStops : {K : Type 0} (shelf : Shelf.Ghosts K) (before after : K)
 GraphStops shelf before after limits name = (shelf.asked after ≡ Some name)
     × IfSome (shelf.held before) (λ files. IsSomeAnd (shelf.rest after) (λ rest. StopsSoon limits (bytes_of files name) rest))
 
--- What reading the graph of this name gives: its rows and names; or want of memory, which may come at any time; or that the
--- shelf failed at it; or that it is refused, and then it is what the file says, and it was read no further than it had to be.
--- The shelf fails in no other case.
+-- Why the graph of this name is not to be had: want of memory, which may come at any time; or that the shelf failed at it; or
+-- that it is refused, and then it is what the file says, and it was read no further than it had to be. The shelf fails in no
+-- other case.
+abbrev pub StopsAtGraph : {K : Type 0} (shelf : Shelf.Ghosts K) (before after : K) (limits : Limits) (name : List ℕ) → Stop (FileFault ReadRefusal) → Type 0
+StopsAtGraph shelf before after limits name NoMemory = shelf.faults after ≡ shelf.faults before
+StopsAtGraph shelf before after limits name (Fault Failed) = FailedAt shelf before after name
+StopsAtGraph shelf before after limits name (Fault (Refused refusal)) = (shelf.faults after ≡ shelf.faults before)
+    × IfSome (shelf.held before) (λ files. FileSays limits (bytes_of files name) (Err refusal)) × GraphStops shelf before after limits name
+
+-- What reading the graph of this name gives: its rows and names, and the shelf did not fail; or what stopped it.
 abbrev pub GivesRows : {K : Type 0} (shelf : Shelf.Ghosts K) (before after : K) (limits : Limits) (name : List ℕ) → Result Rows (Stop (FileFault ReadRefusal)) → Type 0
 GivesRows shelf before after limits name (Ok rows) = (shelf.faults after ≡ shelf.faults before) × ((triples : List Triple) × AreRowsOf shelf before limits name rows triples)
-GivesRows shelf before after limits name (Err NoMemory) = shelf.faults after ≡ shelf.faults before
-GivesRows shelf before after limits name (Err (Fault Failed)) = FailedAt shelf before after name
-GivesRows shelf before after limits name (Err (Fault (Refused refusal))) = (shelf.faults after ≡ shelf.faults before)
-    × IfSome (shelf.held before) (λ files. FileSays limits (bytes_of files name) (Err refusal)) × GraphStops shelf before after limits name
+GivesRows shelf before after limits name (Err stop) = StopsAtGraph shelf before after limits name stop
+
+-- These triples are no more than the limit, and where the shelf tells its files, they are what the file of this name says.
+pub record AreTriplesOf {K : Type 0} (shelf : Shelf.Ghosts K) (before : K) (limits : Limits) (name : List ℕ) (triples : List Triple) : Type 0 where
+  pub few : length triples ≤ limits.triples
+  pub says : IfSome (shelf.held before) (λ files. FileSays limits (bytes_of files name) (Ok triples))
+
+-- What reading the graph of this name gives: its triples, and the shelf did not fail; or what stopped it.
+abbrev pub GivesTriples : {K : Type 0} (shelf : Shelf.Ghosts K) (before after : K) (limits : Limits) (name : List ℕ) → Result (List Triple) (Stop (FileFault ReadRefusal)) → Type 0
+GivesTriples shelf before after limits name (Ok triples) = (shelf.faults after ≡ shelf.faults before) × AreTriplesOf shelf before limits name triples
+GivesTriples shelf before after limits name (Err stop) = StopsAtGraph shelf before after limits name stop

@@ -1,15 +1,19 @@
 -- Reading the canonical text of the keys that a file says gives these keys.
-use Rattle.std.proofs.Common.{◌≡◌, ◌↔◌, ℕ, ◌+◌, ◌≤◌, Bool, true, false, not, cond, eqb, nat_lt, List, [], ◌∷◌, ◌++◌, length, codes, slice_range, position, Option, Some, None, Result, Ok, Err, refl, sym, ap, ap₂, ◌∙◌, subst, arith, append-nil}
+use Rattle.std.proofs.Common.{◌≡◌, ◌↔◌, ℕ, ◌+◌, ◌≤◌, Bool, true, false, not, cond, eqb, nat_lt, List, [], ◌∷◌, ◌++◌, map, length, codes, slice_range, position, Option, Some, None, Result, Ok, Err, refl, sym, ap, ap₂, ◌∙◌, subst, arith, append-nil}
 use Rattle.std.proofs.lemmas.Bool.{and_parts, or_from, cond-true, cond-false, le-leb, le-ltb, ltb-true, ltb-false, eqb-true, false_from_ne_true, true≢false}
 use Rattle.std.proofs.lemmas.List.Concat.{flat_map-append}
-use Rattle.std.specs.List.{list_all, list_any}
+use Rattle.std.specs.List.{list_all, list_any, flat_map}
 use Rattle.gk_base.specs.declared.term.Term.{Term}
 use Rattle.term_table.specs.Numbering.{same_term}
+use Rattle.term_text.specs.CanonicalText.{term_text}
+use Rattle.term_text.specs.ReadBack.{CanBeSpelled}
 use Rattle.nt_reader.specs.Lines.{Lined, cut_of, last_of, lines}
 use Rattle.nt_reader.specs.File.{judged}
 use Rattle.nt_reader.proofs.CallerLemmas.{cut_lined, lined_once}
 use Rattle.key_file.specs.declared.slot.KeySlot.{KeySlot}
-use Rattle.key_file.specs.declared.slot.KeySlot.TheVariants.{Entity, Any}
+use Rattle.key_file.specs.declared.slot.KeySlot.TheVariants.{Entity, Any, Value, Folded, Fixed}
+use Rattle.key_file.specs.declared.edge.KeyEdge.{KeyEdge}
+use Rattle.key_file.specs.Compile.{slot_terms, terms_of_key, key_terms}
 use Rattle.key_file.specs.KeyShape.{KeyShape}
 use Rattle.key_file.specs.Key.{is_connected}
 use Rattle.key_file.specs.KeyFile.{has_name}
@@ -25,7 +29,7 @@ use Rattle.key_lang.specs.declared.open_key.Object.TheVariants.{Declared, Given}
 use Rattle.key_lang.specs.Answers.{Is, goes_on}
 use Rattle.key_file.specs.Name.{is_name}
 use Rattle.key_lang.specs.Tokens.{Skipping, NameSays, VariableSays, IriSays, ConstantSays, Closes, is_over}
-use Rattle.key_lang.specs.OpenKey.{OpenShape, KeyState, nodes, sigil_of, slot_name, is_named_so, begin, declare, same_end, same_triple, add, constant_or_new, link_constant, link, whole, all_used, finish}
+use Rattle.key_lang.specs.OpenKey.{OpenShape, KeyState, nodes, sigil_of, slot_name, is_named_so, begin, declare, same_end, same_triple, add, constant_or_new, link_constant, link, key_edge, whole, all_used, finish}
 use Rattle.key_lang.specs.Statements.{KeySays, typed_slot, TypedSays, slot_of_value, ValueSays, DeclaredSays, KeySubjectSays, ObjectSays, TripleSays, Changes, KeyEndSays, OutsideSays, InsideSays, WordSays, LinkSays, keyword_of, StatementSays, KeyLineSays, no_text, text}
 use Rattle.key_lang.specs.KeyText.{LinesSay, none, good, start, ended, KeysSay}
 use Rattle.key_lang.specs.Fair.{leads, is_inside, IsFair, IsFairBeside, IsFairState}
@@ -40,12 +44,14 @@ use Rattle.key_lang.proofs.ContentLemmas.{all_of_append, GoodSlot}
 use Rattle.key_lang.proofs.ReplayLemmas.{Grows, done, variable, known, new, grows_append}
 use Rattle.key_lang.proofs.KeyAgain.{IsSpelled, contents, contents_say, contents_text, contents_plain}
 
--- the canonical text of keys says them
+-- the canonical text of keys says them, their terms can be spelled, and they have names
 pub record IsReplayed (keys : List KeyShape) : Type 0 where
   pub content : List (List ℕ)
   pub says : LinesSay start 1 content (Ok (record { keys = keys; current = None }))
   pub whole : keys_text keys ≡ joined content
   pub plain : AllOf IsText content
+  pub spelled : AllOf CanBeSpelled (key_terms keys)
+  pub named : AllOf (λ (key : KeyShape). is_name key.name ≡ true) keys
 
 abbrev IsSpelledCurrent : Option OpenShape → Type 0
 IsSpelledCurrent None = Unit {0}
@@ -198,6 +204,44 @@ finishes key = both (finish key) refl is_whole
     both (Ok w) e i = (e, i)
     both (Err f) e i = tt
 
+-- the terms of a key that can be written can be spelled
+iri_spelled : (t : Term) → IsIri t → CanBeSpelled t
+iri_spelled t i = record { piece = term_text t; spells = i.spells }
+
+grown_spelled : (cs ds : List Term) (es : List OpenEdge) → Grows cs es ds → AllOf CanBeSpelled cs → AllOf CanBeSpelled ds
+grown_spelled cs ds [] done a = a
+grown_spelled cs ds (e ∷ es) (variable e' place to g) a = grown_spelled cs ds es g a
+grown_spelled cs ds (e ∷ es) (known e' place t to given at g) a = grown_spelled cs ds es g a
+grown_spelled cs ds (e ∷ es) (new e' t to given at g) a =
+    grown_spelled (cs ++ t ∷ []) ds es g (all_of_append CanBeSpelled cs (t ∷ []) a (record { piece = term_text t; spells = given.spells }, tt))
+
+slots_spelled : (slots : List KeySlot) → AllOf GoodSlot slots → AllOf CanBeSpelled (flat_map slot_terms slots)
+slots_spelled [] a = tt
+slots_spelled (Entity name type ∷ slots) a = (iri_spelled type a.0.1, slots_spelled slots a.1)
+slots_spelled (Any name type ∷ slots) a = (iri_spelled type a.0.1, slots_spelled slots a.1)
+slots_spelled (Value name ∷ slots) a = slots_spelled slots a.1
+slots_spelled (Folded name ∷ slots) a = slots_spelled slots a.1
+slots_spelled (Fixed constant ∷ slots) a = absurd a.0
+
+constants_spelled : (cs : List Term) → AllOf CanBeSpelled cs → AllOf CanBeSpelled (flat_map slot_terms (map Fixed cs))
+constants_spelled [] a = tt
+constants_spelled (c ∷ cs) a = (a.0, constants_spelled cs a.1)
+
+preds_spelled : (count : ℕ) (es : List OpenEdge) → AllOf (λ (e : OpenEdge). IsIri e.pred) es → AllOf CanBeSpelled (map (λ (e : KeyEdge). e.pred) (map (key_edge count) es))
+preds_spelled count [] a = tt
+preds_spelled count (e ∷ es) a = (iri_spelled e.pred a.0, preds_spelled count es a.1)
+
+whole_spelled : (key : OpenShape) → IsSpelled key → AllOf CanBeSpelled (terms_of_key (whole key))
+whole_spelled key s =
+    let constants = map Fixed key.constants in
+    let variables : AllOf CanBeSpelled (flat_map slot_terms key.variables) =
+    subst (λ (vs : List KeySlot). AllOf CanBeSpelled (flat_map slot_terms vs)) (sym s.variables) (iri_spelled s.type s.iri, slots_spelled s.others s.slots) in
+    let slots : AllOf CanBeSpelled (flat_map slot_terms (key.variables ++ constants)) =
+    subst (AllOf CanBeSpelled) (sym (flat_map-append slot_terms key.variables constants))
+    (all_of_append CanBeSpelled (flat_map slot_terms key.variables) (flat_map slot_terms constants) variables (constants_spelled key.constants (grown_spelled [] key.constants key.edges s.grows tt))) in
+    all_of_append CanBeSpelled (flat_map slot_terms (key.variables ++ constants)) (map (λ (e : KeyEdge). e.pred) (map (key_edge (length key.variables)) key.edges)) slots
+    (preds_spelled (length key.variables) key.edges s.preds)
+
 -- one more key
 replayed_more : (keys : List KeyShape) (key : OpenShape) → IsReplayed keys → IsFairBeside keys key → IsSpelled key → finish key ≡ Ok (whole key) → IsReplayed (keys ++ whole key ∷ [])
 replayed_more keys key r beside s e = record {
@@ -206,6 +250,10 @@ replayed_more keys key r beside s e = record {
   whole = flat_map-append key_text keys (whole key ∷ []) ∙ ap₂ (λ (u v : List ℕ). u ++ v) r.whole (append-nil (key_text (whole key)) ∙ contents_text keys key beside.fair s)
       ∙ sym (flat_map-append with_end r.content (contents key s));
   plain = all_of_append IsText r.content (contents key s) r.plain (contents_plain keys key beside.fair s);
+  spelled = subst (AllOf CanBeSpelled) (sym (flat_map-append terms_of_key keys (whole key ∷ [])))
+      (all_of_append CanBeSpelled (key_terms keys) (flat_map terms_of_key (whole key ∷ [])) r.spelled
+      (subst (AllOf CanBeSpelled) (sym (append-nil (terms_of_key (whole key)))) (whole_spelled key s)));
+  named = all_of_append (λ (k : KeyShape). is_name k.name ≡ true) keys (whole key ∷ []) r.named (s.name, tt);
 }
 
 end_spelled : (keys : List KeyShape) (key : OpenShape) → IsReplayed keys → IsFairBeside keys key → IsSpelled key → (line : List ℕ) (at : ℕ) → Keeps IsSpelledState (KeyEndSays keys key line at)
@@ -256,7 +304,7 @@ lines_spelled (line ∷ content) state next n fair s (good {next = t} x y) =
     lines_spelled content t next (n + 1) (line_keeps state fair line (Ok t) x) (line_spelled state fair s line (Ok t) x) y
 
 replayed_none : IsSpelledState start
-replayed_none = (record { content = []; says = none; whole = refl; plain = tt }, tt)
+replayed_none = (record { content = []; says = none; whole = refl; plain = tt; spelled = tt; named = tt }, tt)
 
 -- the keys of a file
 keys_replayed : (limit : ℕ) (bytes : List ℕ) → Keeps IsReplayed (KeysSay limit bytes)
@@ -269,6 +317,14 @@ keys_replayed limit bytes =
     at_end : (keys : List KeyShape) (current : Option OpenShape) (last : ℕ) → IsReplayed keys → Good IsReplayed (ended keys current last)
     at_end keys None last r = r
     at_end keys (Some key) last r = tt
+
+-- the terms of the keys of a file can be spelled
+pub keys_spelled : (limit : ℕ) (bytes : List ℕ) (keys : List KeyShape) → KeysSay limit bytes (Ok keys) → AllOf CanBeSpelled (key_terms keys)
+keys_spelled limit bytes keys says = let r = keys_replayed limit bytes (Ok keys) says in r.spelled
+
+-- and they have names
+pub keys_named : (limit : ℕ) (bytes : List ℕ) (keys : List KeyShape) → KeysSay limit bytes (Ok keys) → AllOf (λ (key : KeyShape). is_name key.name ≡ true) keys
+keys_named limit bytes keys says = let r = keys_replayed limit bytes (Ok keys) says in r.named
 
 -- a file that says keys is within the limit
 says_within : (limit : ℕ) (bytes : List ℕ) → Keeps {A = List KeyShape} (λ _. length bytes ≤ limit) (KeysSay limit bytes)

@@ -1,6 +1,7 @@
 -- what callers of this crate read
 pub mod Verdict
 pub mod StepEntries
+pub mod Reasons
 -- inner invariants and words of the proofs
 pub mod NumberVerdict
 pub mod Rows

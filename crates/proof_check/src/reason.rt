@@ -1,5 +1,8 @@
 //! Reasons against a step.
 
+ghost use Rattle.std.specs.Prelude.{◌≡◌};
+ghost use Rattle.proof_check.specs.Reasons.{reason_text};
+
 /// Why a step of a proof does not hold. The tests come in this order, and each is made only where those before it hold.
 #[derive(Clone, Copy, Debug, PartialEq, Eq)]
 pub enum Reason {
@@ -25,4 +28,24 @@ pub enum Reason {
     SupportNotEarlier,
     /// A support does not lead from the left term to the right one.
     SupportDoesNotLeadThere,
+}
+
+impl Reason {
+    /// Its text, as the checker's answer names it.
+    pub fn text(self) -> &'static [u8]
+        ensures { result.now ≡ reason_text self }
+    {
+        match self {
+            Reason::UnknownKey => b"unknown key",
+            Reason::WrongShape => b"wrong shape",
+            Reason::TermNotInTheGraph => b"term not in the graph",
+            Reason::TermTwice => b"term twice",
+            Reason::WrongKindOrType => b"wrong kind or type",
+            Reason::TripleMissing => b"triple missing",
+            Reason::ConstantDiffers => b"constant differs",
+            Reason::ValueDiffers => b"value differs",
+            Reason::SupportNotEarlier => b"support not earlier",
+            Reason::SupportDoesNotLeadThere => b"support does not lead there",
+        }
+    }
 }

@@ -1,2 +1,3 @@
 -- What proofs of the crates above cite. No other proof file of this crate is cited outside it.
 pub use Rattle.proof_graph.proofs.TermLeads.{leads_same}
+pub use Rattle.proof_graph.proofs.OnceLemmas.{proof_once}

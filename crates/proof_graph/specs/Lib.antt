@@ -6,6 +6,7 @@ pub mod Tells
 pub mod CanonicalProof
 pub mod Words
 pub mod ProofText
+pub mod Faults
 -- inner invariants and words of the proofs
 pub mod Tree
 pub mod Parts

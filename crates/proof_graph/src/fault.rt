@@ -1,5 +1,8 @@
 //! What may be wrong with a proof file.
 
+ghost use Rattle.std.specs.Prelude.{◌≡◌};
+ghost use Rattle.proof_graph.specs.Faults.{proof_fault_text};
+
 use gk_base::{LexFault, Stop};
 
 /// What is wrong with a line of a proof file, or with the file.
@@ -21,6 +24,24 @@ pub enum ProofFault {
     FileEndsInsideAProof,
     /// No term of the file has this number.
     TermNumberOutOfRange,
+}
+
+impl ProofFault {
+    /// Its text, as an error message names it.
+    pub fn text(self) -> &'static [u8]
+        ensures { result.now ≡ proof_fault_text self }
+    {
+        match self {
+            ProofFault::Lex(fault) => fault.text(),
+            ProofFault::BadHeader => b"bad header",
+            ProofFault::BadLine => b"bad line",
+            ProofFault::CountDiffers => b"count differs",
+            ProofFault::TextAfterTheEnd => b"text after the end",
+            ProofFault::FileTooLong => b"file too long",
+            ProofFault::FileEndsInsideAProof => b"proof ends early",
+            ProofFault::TermNumberOutOfRange => b"term number out of range",
+        }
+    }
 }
 
 /// The line at which a proof file is refused, counted from 1, and why.

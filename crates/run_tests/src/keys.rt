@@ -21,7 +21,7 @@ const BY_P: &[u8] = b"key k <urn:T>\nvalue $v\n?x <urn:p> $v\nend\n";
 
 const TWO_OF_T: &str = "<urn:a> % <urn:T> .\n<urn:b> % <urn:T> .\n";
 
-const ALBUMS_AND_ARTISTS: &str = "\
+pub const ALBUMS_AND_ARTISTS: &str = "\
 <urn:al1> % <urn:Album> .\n<urn:al2> % <urn:Album> .\n<urn:al1> <urn:name> \"Anthology 2\" .\n<urn:al2> <urn:name> \"Anthology 2\" .
 <urn:al1> <urn:year> \"1996\" .\n<urn:al2> <urn:year> \"1996\" .
 <urn:al3> % <urn:Album> .\n<urn:al4> % <urn:Album> .\n<urn:al3> <urn:name> \"Help!\" .\n<urn:al4> <urn:name> \"Help!\" .
@@ -335,7 +335,7 @@ key m <urn:T>\nentity ?y <urn:E>\n?x <urn:q> ?y\nend
 ];
 
 /// The text with `rdf:type` in each place of `%`.
-fn with_types(alloc: Global, short: &[u8]) -> Result<Vec<u8>, NoMemory> {
+pub fn with_types(alloc: Global, short: &[u8]) -> Result<Vec<u8>, NoMemory> {
     let mut text = Vec::new(alloc);
     for byte in short {
         if *byte == b'%' {

@@ -4,11 +4,14 @@
 //! - `runs`: words, limits, and devices that fail
 //! - `graphs`: graphs in all forms of N-Triples, and graphs that are refused
 //! - `keys`: small graphs with keys, and the classes that follow by hand
+//! - `proofs`: proofs that are made, checked and converted
 #![tactic(auto)]
 
 #[cfg(test)]
 mod graphs;
 #[cfg(test)]
 mod keys;
+#[cfg(test)]
+mod proofs;
 #[cfg(test)]
 mod runs;

@@ -55,12 +55,13 @@ const TWO_CLASSES: &[u8] = b"\
 <urn:d> <urn:p> \"3\" .
 ";
 
-/// A run over the files `g` and `k`, the calls that fail, and what it must leave.
+/// A run over the files `g`, `k` and `p`, the calls that fail, and what it must leave.
 #[derive(Clone, Copy)]
 pub struct Case<'a> {
     pub words: &'a [&'a str],
     pub graph: &'a [u8],
     pub keys: &'a [u8],
+    pub proof: &'a [u8],
     pub reads: &'a [u64],
     pub writes: &'a [u64],
     /// The most bytes that a call gives or takes.
@@ -76,6 +77,7 @@ pub const GOOD: Case<'static> = Case {
     words: &["match", "g", "k"],
     graph: ALBUMS,
     keys: ALBUM_KEY,
+    proof: b"",
     reads: &[],
     writes: &[],
     most: 65_536,
@@ -110,9 +112,10 @@ pub fn holds<R: AllocGlobal + Threads + Wait + Sync>(
     let mut files = Vec::new(rt.alloc());
     files.push((text(rt, "g")?, case.graph.to_vec(rt.alloc())?))?;
     files.push((text(rt, "k")?, case.keys.to_vec(rt.alloc())?))?;
+    files.push((text(rt, "p")?, case.proof.to_vec(rt.alloc())?))?;
     let mut shelf = MemShelf::new(files, case.most, case.reads.to_vec(rt.alloc())?);
-    let mut out = MemSink::new(rt.alloc(), case.most, 100, case.writes.to_vec(rt.alloc())?)?;
-    let mut err = MemSink::new(rt.alloc(), 100, 100, Vec::new(rt.alloc()))?;
+    let mut out = MemSink::new(rt.alloc(), case.most, 1000, case.writes.to_vec(rt.alloc())?)?;
+    let mut err = MemSink::new(rt.alloc(), 1000, 1000, Vec::new(rt.alloc()))?;
     let status = run_with(
         rt,
         rt.alloc(),
@@ -280,11 +283,15 @@ fn failed_writes_leave_a_front(rt: HostRuntime) -> Result<(), Fail> {
 }
 
 /// Words that ask for no command.
-static NO_COMMAND: [&'static [&'static str]; 7] = [
+static NO_COMMAND: [&'static [&'static str]; 11] = [
     &[],
     &["match", "g"],
     &["match", "g", "k", "k"],
     &["matched", "g", "k"],
+    &["prove", "g"],
+    &["check", "g", "k"],
+    &["convert"],
+    &["convert", "p", "p"],
     &["demo", "0"],
     &["match", "--workers", "65", "g", "k"],
     &["match", "--workers", "04", "g", "k"],
@@ -297,7 +304,7 @@ fn other_words_ask_for_no_command(rt: HostRuntime) -> Result<(), Fail> {
             words,
             status: 64,
             out: b"",
-            err: "usage:\n  gkey match GRAPH KEYS\n",
+            err: "usage:\n  gkey match GRAPH KEYS\n  gkey prove GRAPH KEYS\n  gkey check GRAPH KEYS PROOF\n  gkey convert PROOF\n",
             ..GOOD
         };
         assert!(rt; holds(&rt, &case)?, "row {row}");

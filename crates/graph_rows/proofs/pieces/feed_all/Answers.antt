@@ -2,6 +2,7 @@ use Rattle.std.proofs.Common.{[], ◌++◌, ◌≤◌, ◌^◌, ◌∙◌, refl,
 use Rattle.gk_base.specs.declared.limits.Limits.{Limits}
 use Rattle.std.proofs.lemmas.Result.{err_from_is_err_and}
 use Rattle.nt_reader.proofs.CallerLemmas.{nothing_open}
+use Rattle.graph_rows.specs.Rows.{StandFor}
 use Rattle.graph_rows.proofs.FeedingLemmas.{were_read_none, fed_more, fed_no_more, fed_taken, taken_few, fed_all, fewer_left}
 use Rattle.graph_rows.proofs.pieces.feed_all.Goals as goal
 
@@ -32,7 +33,7 @@ returns-in_err-count-clause-feeds g c =
     let i = c.pieces.invariant in
     let p = err_from_is_err_and c.from_residual.result c.from_residual.ensures.1 in
     rw (p.1, p.2) (fed_no_more g.S.Shelf c.args.shelf.now c.pieces.shelf c.feed_next.new.shelf c.args.reader.now.limits _ c.pieces.reader c.feed_next.new.reader
-    c.pieces.rows i.fed.0 i.fed.1 i.fed.2 i.count c.in_err-count.ensures.limits c.in_err-count.field-0.0 c.pieces.rows i.few c.in_err-count.ensures.feeds)
+    (StandFor c.pieces.rows) i.fed.0 i.fed.1 i.fed.2 i.count c.in_err-count.ensures.limits c.in_err-count.field-0.0 (StandFor c.pieces.rows) i.few c.in_err-count.ensures.feeds)
 
 pub take_triples-requires : goal.take_triples-requires
 take_triples-requires g c = c.pieces.invariant.none
@@ -59,11 +60,11 @@ returns-then-count-eq0-clause-feeds g c =
     let f = c.in_ok-count.ensures in
     let t = c.take_triples.ensures in
     let more = fed_more g.S.Shelf c.args.shelf.now c.pieces.shelf c.feed_next.new.shelf c.args.reader.now.limits _ c.pieces.reader c.feed_next.new.reader
-    c.pieces.rows i.fed.0 i.fed.1 i.fed.2 i.count f.limits c.in_ok-count.count f.feeds in
-    let taken = fed_taken g.S.Shelf c.args.shelf.now c.feed_next.new.shelf c.args.reader.now.limits c.feed_next.new.reader c.take_triples.new.self c.pieces.rows c.add.new.self
+    (StandFor c.pieces.rows) i.fed.0 i.fed.1 i.fed.2 i.count f.limits c.in_ok-count.count f.feeds in
+    let taken = fed_taken g.S.Shelf c.args.shelf.now c.feed_next.new.shelf c.args.reader.now.limits c.feed_next.new.reader c.take_triples.new.self (StandFor c.pieces.rows) (StandFor c.add.new.self)
     i.fed.0 c.take_triples.new.into (i.fed.1 ++ f.feeds.0) more t.limits t.taken c.in_ok-add.ensures.stand in
     fed_all g.S.Shelf c.args.shelf.now c.pieces.shelf c.feed_next.new.shelf c.args.reader.now.limits _ c.in_ok-count.count c.pieces.reader c.feed_next.new.reader c.take_triples.new.self
-    c.pieces.rows c.add.new.self i.fed.0 c.take_triples.new.into i.fed.1 i.fed.2 i.count f.feeds c.if-count-eq0.true taken
+    (StandFor c.pieces.rows) (StandFor c.add.new.self) i.fed.0 (i.fed.0 ++ c.take_triples.new.into) i.fed.1 i.fed.2 i.count f.feeds c.if-count-eq0.true taken
 
 pub pieces-preserved : goal.pieces-preserved
 pieces-preserved g c =
@@ -71,7 +72,7 @@ pieces-preserved g c =
     let f = c.in_ok-count.ensures in
     let t = c.take_triples.ensures in
     let more = fed_more g.S.Shelf c.args.shelf.now c.pieces.shelf c.feed_next.new.shelf c.args.reader.now.limits _ c.pieces.reader c.feed_next.new.reader
-    c.pieces.rows i.fed.0 i.fed.1 i.fed.2 i.count f.limits c.in_ok-count.count f.feeds in
+    (StandFor c.pieces.rows) i.fed.0 i.fed.1 i.fed.2 i.count f.limits c.in_ok-count.count f.feeds in
     record {
       held = f.held ∙ i.held;
       asked = f.asked ∙ i.asked;
@@ -83,7 +84,7 @@ pieces-preserved g c =
       fed = (
         i.fed.0 ++ c.take_triples.new.into,
         i.fed.1 ++ f.feeds.0,
-        fed_taken g.S.Shelf c.args.shelf.now c.feed_next.new.shelf c.args.reader.now.limits c.feed_next.new.reader c.take_triples.new.self c.pieces.rows c.add.new.self
+        fed_taken g.S.Shelf c.args.shelf.now c.feed_next.new.shelf c.args.reader.now.limits c.feed_next.new.reader c.take_triples.new.self (StandFor c.pieces.rows) (StandFor c.add.new.self)
             i.fed.0 c.take_triples.new.into (i.fed.1 ++ f.feeds.0) more t.limits t.taken c.in_ok-add.ensures.stand,
       );
     }

@@ -1,5 +1,6 @@
 use Rattle.std.proofs.Common.{List, [], ℕ, ◌≡◌, ◌<◌, ◌≤◌, ◌^◌, length}
 use Rattle.gk_base.specs.declared.term.Triple.{Triple}
+use Rattle.graph_rows.specs.Rows.{StandFor}
 use Rattle.graph_rows.proofs.FeedingLemmas.{HasFed, left_of}
 use Rattle.graph_rows.proofs.pieces.feed_all.Given as goal
 
@@ -14,7 +15,7 @@ invariant-pieces g l =
       few : length l.buf ≤ 65536;
       none : l.triples ≡ [];
       limit : l.reader.limits.triples ≤ 2 ^ 22;
-      fed : (taken : List Triple) × (seen : List ℕ) × HasFed shelf l.fn.shelf l.shelf l.fn.reader.limits l.reader l.rows taken seen;
+      fed : (taken : List Triple) × (seen : List ℕ) × HasFed shelf l.fn.shelf l.shelf l.fn.reader.limits l.reader (StandFor l.rows) taken seen;
     }
 
 abbrev pub decreases-pieces : goal.decreases-pieces

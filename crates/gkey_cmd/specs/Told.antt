@@ -1,0 +1,30 @@
+-- The text of a proof that a finished chase was made into: this project's own words.
+use Rattle.std.specs.Prelude.{List, ℕ, true, All, map, length, Ok, ◌≡◌, ◌≤◌}
+use Rattle.gk_base.specs.declared.term.Term.{Term}
+use Rattle.chase_laws.specs.declared.entry.Entry.{Entry}
+use Rattle.chase_laws.specs.Shape.{Shape}
+use Rattle.chase_laws.specs.Graph.{NumberedGraph}
+use Rattle.chase_laws.specs.Joined.{links}
+use Rattle.match_run.specs.Classes.{IsFinishedJournal}
+use Rattle.term_table.specs.Numbering.{place_of}
+use Rattle.proof_graph.specs.Steps.{StepShape, term_at}
+use Rattle.proof_graph.specs.Tells.{TellsAll}
+use Rattle.proof_graph.specs.ProofText.{ProofSays}
+use Rattle.proof_graph.specs.CanonicalProof.{proof_text}
+use Rattle.key_file.specs.Name.{is_name}
+use Rattle.term_text.specs.ReadBack.{CanBeSpelled}
+
+-- the numbers of the two terms that a step makes the same
+abbrev pub step_link : List Term → StepShape → ℕ × ℕ
+step_link names step = (place_of names (term_at step.left 0), place_of names (term_at step.right 0))
+
+-- The text is that of a proof, whose steps tell the entries of a finished journal, and make the same what the entries do. Where
+-- names and keys can be written, it is read as these steps.
+pub record TellsJournal (G : NumberedGraph) (K : List Shape) (names : List Term) (key_names : List (List ℕ)) (text : List ℕ) : Type 0 where
+  pub journal : List Entry
+  pub steps : List StepShape
+  pub finished : IsFinishedJournal G K journal
+  pub tells : TellsAll names K key_names journal steps
+  pub ends : map (step_link names) steps ≡ links journal
+  pub written : text ≡ proof_text steps
+  pub reads : All CanBeSpelled names → All (λ name. is_name name ≡ true) key_names → (limit : ℕ) → length text ≤ limit → ProofSays limit text (Ok steps)

@@ -1,0 +1,308 @@
+//! Proofs that are made, checked and converted. In graphs and keys `%` stands for `rdf:type`.
+
+use crate::keys::{ALBUMS_AND_ARTISTS, with_types};
+use crate::runs::{Case, GOOD, holds};
+use fixtures::texts::{ALBUM_AND_ARTIST_KEYS, ALBUM_KEY, ALBUMS};
+use gk_base::Limits;
+use std::sync::Wait;
+use std::test::Fail;
+use std::thread::Threads;
+
+/// The proof that two albums with one name and one year are the same, in both versions.
+const ALBUM_PROOF_1: &str = "\
+gkey-proof 1
+step album_year
+left <urn:al1> \"Anthology 2\" \"1996\"
+right <urn:al2> \"Anthology 2\" \"1996\"
+done
+end 1
+";
+
+const ALBUM_PROOF: &str = "\
+gkey-proof 2
+terms 4
+<urn:al1>
+\"Anthology 2\"
+\"1996\"
+<urn:al2>
+step album_year
+left 1 2 3
+right 4 2 3
+done
+end 1
+";
+
+/// The proof of nothing.
+const NO_STEPS: &str = "gkey-proof 2\nterms 0\nend 0\n";
+
+/// A proof of the three pairs of albums and artists, in both versions.
+const THREE_STEPS_1: &str = "\
+gkey-proof 1
+step album_year
+left <urn:al1> \"Anthology 2\" \"1996\"
+right <urn:al2> \"Anthology 2\" \"1996\"
+done
+step artist
+left <urn:ar1> <urn:al1> \"The Beatles\"
+right <urn:ar2> <urn:al2> \"The Beatles\"
+by 1 1
+done
+step album_by
+left <urn:al3> <urn:ar1> \"Help!\"
+right <urn:al4> <urn:ar2> \"Help!\"
+by 1 2
+done
+end 3
+";
+
+const THREE_STEPS: &str = "\
+gkey-proof 2
+terms 10
+<urn:al1>
+\"Anthology 2\"
+\"1996\"
+<urn:al2>
+<urn:ar1>
+\"The Beatles\"
+<urn:ar2>
+<urn:al3>
+\"Help!\"
+<urn:al4>
+step album_year
+left 1 2 3
+right 4 2 3
+done
+step artist
+left 5 1 6
+right 7 4 6
+by 1 1
+done
+step album_by
+left 8 5 9
+right 10 7 9
+by 1 2
+done
+end 3
+";
+
+/// What a command leaves of a graph, keys and a proof.
+#[derive(Clone, Copy)]
+struct Row {
+    words: &'static [&'static str],
+    graph: &'static str,
+    keys: &'static [u8],
+    proof: &'static str,
+    status: u8,
+    out: &'static str,
+}
+
+const ALBUM_LINES: &str = "\
+<urn:al1> % <urn:Album> .\n<urn:al2> % <urn:Album> .\n<urn:al1> <urn:name> \"Anthology 2\" .\n<urn:al2> <urn:name> \"Anthology 2\" .
+<urn:al1> <urn:year> \"1996\" .\n<urn:al2> <urn:year> \"1996\" .
+";
+
+const OTHER_YEAR: &str = "\
+<urn:al1> % <urn:Album> .\n<urn:al2> % <urn:Album> .\n<urn:al1> <urn:name> \"Anthology 2\" .\n<urn:al2> <urn:name> \"Anthology 2\" .
+<urn:al1> <urn:year> \"1996\" .\n<urn:al2> <urn:year> \"1996\" .\n<urn:al1> <urn:year> \"Anthology 2\" .
+";
+
+const YEAR_KEY: &[u8] = b"key c <urn:Album>\n?x <urn:year> \"1996\"\nend\n";
+
+const YEAR_PROOF: &str = "gkey-proof 1\nstep c\nleft <urn:al1> \"Anthology 2\"\nright <urn:al2> \"1996\"\ndone\nend 1\n";
+
+const STREETS: &str = "\
+<urn:u1> % <urn:T> .\n<urn:u2> % <urn:T> .\n<urn:u3> % <urn:T> .
+<urn:u1> <urn:p> \"Straße\" .\n<urn:u2> <urn:p> \"STRASSE\" .\n<urn:u3> <urn:p> \"strasse\"@de .
+";
+
+const FOLDED_KEY: &[u8] = b"key k <urn:T>\nfolded $v\n?x <urn:p> $v\nend\n";
+
+const VALUE_KEY: &[u8] = b"key k <urn:T>\nvalue $v\n?x <urn:p> $v\nend\n";
+
+const STREET_PROOF: &str = "gkey-proof 1\nstep k\nleft <urn:u1> \"Straße\"\nright <urn:u2> \"STRASSE\"\ndone\nend 1\n";
+
+const PROVE: &[&str] = &["prove", "g", "k"];
+
+const CHECK: &[&str] = &["check", "g", "k", "p"];
+
+const CONVERT: &[&str] = &["convert", "p"];
+
+static ROWS: [Row; 14] = [
+    Row { words: PROVE, graph: ALBUM_LINES, keys: ALBUM_KEY, proof: "", status: 0, out: ALBUM_PROOF },
+    Row { words: PROVE, graph: "", keys: ALBUM_KEY, proof: "", status: 0, out: NO_STEPS },
+    Row { words: CHECK, graph: "", keys: ALBUM_KEY, proof: NO_STEPS, status: 0, out: "accepted 0\n" },
+    Row { words: CHECK, graph: ALBUM_LINES, keys: ALBUM_KEY, proof: ALBUM_PROOF, status: 0, out: "accepted 1\n" },
+    Row { words: CHECK, graph: ALBUM_LINES, keys: ALBUM_KEY, proof: ALBUM_PROOF_1, status: 0, out: "accepted 1\n" },
+    Row { words: CHECK, graph: ALBUMS_AND_ARTISTS, keys: ALBUM_AND_ARTIST_KEYS, proof: THREE_STEPS_1, status: 0, out: "accepted 3\n" },
+    Row { words: CHECK, graph: ALBUMS_AND_ARTISTS, keys: ALBUM_AND_ARTIST_KEYS, proof: THREE_STEPS, status: 0, out: "accepted 3\n" },
+    Row { words: CHECK, graph: ALBUM_LINES, keys: YEAR_KEY, proof: YEAR_PROOF, status: 1, out: "rejected 1: triple missing\n" },
+    Row { words: CHECK, graph: OTHER_YEAR, keys: YEAR_KEY, proof: YEAR_PROOF, status: 1, out: "rejected 1: constant differs\n" },
+    Row { words: CHECK, graph: STREETS, keys: FOLDED_KEY, proof: STREET_PROOF, status: 0, out: "accepted 1\n" },
+    Row { words: CHECK, graph: STREETS, keys: VALUE_KEY, proof: STREET_PROOF, status: 1, out: "rejected 1: value differs\n" },
+    Row { words: CONVERT, graph: "", keys: b"", proof: ALBUM_PROOF_1, status: 0, out: ALBUM_PROOF },
+    Row { words: CONVERT, graph: "", keys: b"", proof: THREE_STEPS_1, status: 0, out: THREE_STEPS },
+    Row { words: CONVERT, graph: "x", keys: b"x", proof: THREE_STEPS, status: 0, out: THREE_STEPS },
+];
+
+/// Whether a command leaves this of a graph, keys and a proof.
+fn row_holds<R: AllocGlobal + Threads + Wait + Sync>(rt: &R, row: &Row) -> Result<bool, Fail> {
+    let graph = with_types(rt.alloc(), row.graph.as_bytes())?;
+    let case = Case {
+        words: row.words,
+        graph: &graph,
+        keys: row.keys,
+        proof: row.proof.as_bytes(),
+        status: row.status,
+        out: row.out.as_bytes(),
+        ..GOOD
+    };
+    holds(rt, &case)
+}
+
+#[test]
+fn proofs_are_made_checked_and_converted(rt: HostRuntime) -> Result<(), Fail> {
+    for (row, expected) in ROWS.iter().enumerate() {
+        assert!(rt; row_holds(&rt, expected)?, "row {row}");
+    }
+    Ok(())
+}
+
+/// A line of a proof, what stands in its place, and what a command then leaves.
+#[derive(Clone, Copy)]
+struct Changed {
+    words: &'static [&'static str],
+    proof: &'static str,
+    old: &'static str,
+    new: &'static str,
+    status: u8,
+    out: &'static str,
+    err: &'static str,
+}
+
+/// A proof of three steps with one line changed that is not accepted.
+const REJECTED: Changed = Changed {
+    words: CHECK,
+    proof: THREE_STEPS_1,
+    old: "",
+    new: "",
+    status: 1,
+    out: "",
+    err: "",
+};
+
+/// One that is refused.
+const REFUSED: Changed = Changed {
+    words: CONVERT,
+    proof: THREE_STEPS,
+    status: 2,
+    ..REJECTED
+};
+
+static CHANGED: [Changed; 14] = [
+    Changed { old: "by 1 1", new: "by 1 2", out: "rejected 2: support not earlier\n", ..REJECTED },
+    Changed { old: "by 1 1", new: "by 1", out: "rejected 2: support does not lead there\n", ..REJECTED },
+    Changed { old: "step album_year", new: "step nokey", out: "rejected 1: unknown key\n", ..REJECTED },
+    Changed { old: "left <urn:al1> \"Anthology 2\" \"1996\"", new: "left <urn:al1> \"Anthology 2\"", out: "rejected 1: wrong shape\n", ..REJECTED },
+    Changed { old: "left <urn:al1> \"Anthology 2\" \"1996\"", new: "left <urn:al9> \"Anthology 2\" \"1996\"", out: "rejected 1: term not in the graph\n", ..REJECTED },
+    Changed { old: "left <urn:al1> \"Anthology 2\" \"1996\"", new: "left <urn:al1> \"Anthology 2\" \"Anthology 2\"", out: "rejected 1: term twice\n", ..REJECTED },
+    Changed { old: "left <urn:al1> \"Anthology 2\" \"1996\"", new: "left <urn:ar1> \"Anthology 2\" \"1996\"", out: "rejected 1: wrong kind or type\n", ..REJECTED },
+    Changed { old: "right <urn:al2> \"Anthology 2\" \"1996\"", new: "right <urn:al3> \"Anthology 2\" \"1996\"", out: "rejected 1: triple missing\n", ..REJECTED },
+    Changed { old: "right <urn:al4> <urn:ar2> \"Help!\"", new: "right <urn:al2> <urn:ar2> \"Anthology 2\"", out: "rejected 3: value differs\n", ..REJECTED },
+    Changed { old: "by 1 2", new: "by 1 3", out: "rejected 3: support not earlier\n", ..REJECTED },
+    Changed { old: "end 3", new: "end 2", status: 2, err: "proof:16: count differs\n", ..REJECTED },
+    Changed { old: "right 10 7 9", new: "right 11 7 9", err: "proof:24: term number out of range\n", ..REFUSED },
+    Changed { old: "right 10 7 9", new: "right 010 7 9", err: "proof:24: bad line\n", ..REFUSED },
+    Changed { old: "gkey-proof 2", new: "gkey-proof 3", err: "proof:1: bad header\n", ..REFUSED },
+];
+
+/// The text with this line changed.
+fn with_line<R: AllocGlobal>(rt: &R, text: &str, old: &str, new: &str) -> Result<Vec<u8>, Fail> {
+    let mut changed = Vec::new(rt.alloc());
+    for line in text.lines() {
+        let kept = if line == old { new } else { line };
+        changed.extend_from_slice(kept.as_bytes())?;
+        changed.extend_from_slice(b"\n")?;
+    }
+    Ok(changed)
+}
+
+/// Whether a command leaves this where the line is changed.
+fn change_holds<R: AllocGlobal + Threads + Wait + Sync>(rt: &R, row: &Changed) -> Result<bool, Fail> {
+    let graph = with_types(rt.alloc(), ALBUMS_AND_ARTISTS.as_bytes())?;
+    let proof = with_line(rt, row.proof, row.old, row.new)?;
+    let case = Case {
+        words: row.words,
+        graph: &graph,
+        keys: ALBUM_AND_ARTIST_KEYS,
+        proof: &proof,
+        status: row.status,
+        out: row.out.as_bytes(),
+        err: row.err,
+        ..GOOD
+    };
+    holds(rt, &case)
+}
+
+#[test]
+fn the_first_step_that_fails_is_named_with_its_reason(rt: HostRuntime) -> Result<(), Fail> {
+    for (row, expected) in CHANGED.iter().enumerate() {
+        assert!(rt; change_holds(&rt, expected)?, "row {row}");
+    }
+    Ok(())
+}
+
+/// A check of the albums.
+const CHECKED: Case<'static> = Case {
+    words: CHECK,
+    graph: ALBUMS,
+    proof: ALBUM_PROOF.as_bytes(),
+    out: b"accepted 1\n",
+    ..GOOD
+};
+
+#[test]
+fn a_proof_file_comes_last(rt: HostRuntime) -> Result<(), Fail> {
+    let refused = [
+        (b"<a>".as_slice(), b"x".as_slice(), "graph:1: relative IRI\n"),
+        (ALBUMS, b"x", "keys:1: unknown statement\n"),
+        (ALBUMS, ALBUM_KEY, "proof:2: bad line\n"),
+    ];
+    for (row, (graph, keys, err)) in refused.into_iter().enumerate() {
+        let case = Case { graph, keys, proof: b"gkey-proof 1\nx", status: 2, out: b"", err, ..CHECKED };
+        assert!(rt; holds(&rt, &case)?, "row {row}");
+    }
+    let early = Case {
+        words: CONVERT,
+        proof: b"gkey-proof 1\n",
+        status: 2,
+        out: b"",
+        err: "proof:1: proof ends early\n",
+        ..CHECKED
+    };
+    assert!(rt; holds(&rt, &early)?);
+    let long = Case {
+        words: CONVERT,
+        limits: Limits { bytes: 10, ..Limits::STANDARD },
+        status: 2,
+        out: b"",
+        err: "proof:1: file too long\n",
+        ..CHECKED
+    };
+    assert!(rt; holds(&rt, &long)?);
+    Ok(())
+}
+
+#[test]
+fn a_proof_file_that_can_not_be_read_is_named(rt: HostRuntime) -> Result<(), Fail> {
+    let unread = Case { status: 3, out: b"", err: "proof: read failed\n", ..CHECKED };
+    for call in 7u64..10 {
+        assert!(rt; holds(&rt, &Case { reads: &[call], ..unread })?, "call {call}");
+    }
+    assert!(rt; holds(&rt, &Case { words: &["check", "g", "k", "none"], ..unread })?);
+    for call in 1u64..4 {
+        assert!(rt; holds(&rt, &Case { words: CONVERT, reads: &[call], ..unread })?, "call {call}");
+    }
+    assert!(rt; holds(&rt, &Case { words: &["convert", "none"], ..unread })?);
+    assert!(rt; holds(&rt, &Case { reads: &[10], ..CHECKED })?);
+    Ok(())
+}
