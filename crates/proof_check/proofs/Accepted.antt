@@ -1,10 +1,8 @@
 -- The steps of an accepted proof are a derivation.
-use Rattle.std.proofs.Common.{List, [], ◌∷◌, ◌++◌, ℕ, zero, suc, ◌+◌, ◌<◌, Option, Some, None, All, map, length, slice_get, take, ◌≡◌, refl, sym, ap, subst, ◌∙◌, arith, length-append, append_assoc, append-nil}
-use Rattle.std.proofs.lemmas.List.{length-map, map-append}
+use Rattle.std.proofs.Common.{List, [], ◌∷◌, ◌++◌, ℕ, zero, suc, Option, Some, None, map, slice_get, take, ◌≡◌, refl, sym, subst, append_assoc, append-nil}
+use Rattle.std.proofs.lemmas.List.{map-append}
 use Rattle.std.proofs.lemmas.Option.{get_or_from_slice_get, slice_get_within}
-use Rattle.gk_base.specs.declared.term.Term.{Term}
 use Rattle.gk_base.specs.declared.term.Triple.{Triple}
-use Rattle.chase_laws.specs.declared.entry.Entry.{Entry}
 use Rattle.chase_laws.specs.Chase.{IsStep, IsDerivation}
 use Rattle.key_file.specs.KeyShape.{KeyShape}
 use Rattle.key_file.specs.Key.{IsKey}
@@ -16,9 +14,9 @@ use Rattle.proof_check.specs.StepEntries.{step_entry, step_entries}
 use Rattle.proof_check.specs.Verdict.{key_place, reason_of, rejected_or, verdict_after, verdict}
 use Rattle.proof_check.specs.declared.reason.Reason.{Reason}
 use Rattle.proof_check.specs.declared.verdict.Verdict.{Verdict}
-use Rattle.proof_check.specs.declared.verdict.Verdict.TheVariants.{Accepted, Rejected}
+use Rattle.proof_check.specs.declared.verdict.Verdict.TheVariants.{Accepted}
 use Rattle.proof_check.proofs.ListFacts.{map-take, map_found}
-use Rattle.proof_check.proofs.NameFacts.{AreNames, are_names}
+use Rattle.proof_check.proofs.NameFacts.{are_names}
 use Rattle.proof_check.proofs.ToNumbers.{holds_at, step_holds}
 
 -- no reason was found

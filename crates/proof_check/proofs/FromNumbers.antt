@@ -1,24 +1,23 @@
 -- A proof that gives each entry of a derivation its step, with supports that lead, is accepted.
-use Rattle.std.proofs.Common.{List, [], ◌∷◌, ◌++◌, ℕ, zero, suc, ◌+◌, ◌-◌, ◌<◌, ◌≤◌, Bool, true, false, not, ◌==◌, ◌&&◌, ◌||◌, Option, Some, None, option_map, map, length, slice_get, slice_index, get_or, take, bytes_eq, All, IsSomeAnd, ◌≡◌, ◌≢◌, ◌⊎◌, inl, inr, refl, sym, ap, subst, ◌∙◌, arith, true≢false, eqb-true, eq-eqb, if◌then◌else◌, append_assoc, append-nil, length-append}
-use Rattle.std.specs.List.{list_any, list_all, AllPairs}
-use Rattle.std.proofs.lemmas.Bool.{and_parts, and_from, or_cases, or_left, or_right, cases_Bool, not-true, not_from_false, false_from_ne_true, cond-true, cond-false}
+use Rattle.std.proofs.Common.{List, [], ◌∷◌, ◌++◌, ℕ, suc, ◌+◌, ◌<◌, Bool, true, false, not, ◌==◌, ◌||◌, Option, Some, None, map, length, slice_get, slice_index, get_or, take, bytes_eq, IsSomeAnd, ◌≡◌, inl, inr, refl, sym, ap, subst, ◌∙◌, arith, true≢false, eqb-true, eq-eqb, if◌then◌else◌, append_assoc, append-nil, length-append}
+use Rattle.std.specs.List.{list_all}
+use Rattle.std.proofs.lemmas.Bool.{and_from, or_cases, or_left, or_right, cases_Bool, not_from_false, false_from_ne_true}
 use Rattle.std.proofs.lemmas.List.{length-map, map-append}
 use Rattle.std.proofs.lemmas.List.Sums.{position_or_len_is}
 use Rattle.std.proofs.lemmas.Slice.Eq.{bytes_eq-Decides}
-use Rattle.std.proofs.lemmas.Option.{slice_get_within, slice_get-get_or, get_or_from_slice_get}
+use Rattle.std.proofs.lemmas.Option.{slice_get_within, get_or_from_slice_get}
 use Rattle.gk_base.specs.Term.{is_literal}
 use Rattle.gk_base.specs.declared.term.Term.{Term}
 use Rattle.gk_base.specs.declared.term.Term.TheVariants.{Plain}
 use Rattle.gk_base.specs.declared.term.Triple.{Triple}
 use Rattle.term_list.specs.Triples.{triple_terms}
 use Rattle.chase_laws.specs.declared.entry.Entry.{Entry}
-use Rattle.chase_laws.specs.declared.pattern.Slot.{Slot}
 use Rattle.chase_laws.specs.declared.pattern.Edge.{Edge}
 use Rattle.chase_laws.specs.Shape.{Shape}
 use Rattle.chase_laws.specs.Graph.{NumberedGraph, HasRow, HasType, IsLiteral, AreAlike}
 use Rattle.chase_laws.specs.Valuation.{FitsSlot, IsValuation, AgreeAt, Coincide, IsMatch}
 use Rattle.chase_laws.specs.Joined.{joined_by}
-use Rattle.chase_laws.specs.Chase.{IsStep, IsDerivation}
+use Rattle.chase_laws.specs.Chase.{IsDerivation}
 use Rattle.term_table.specs.Numbering.{same_term, is_named, place_of}
 use Rattle.term_table.specs.Folding.{folded_term}
 use Rattle.term_table.proofs.CallerLemmas.{same_term-true, same_term-refl, slice_get-place_of, is_named-at}
@@ -27,23 +26,22 @@ use Rattle.key_file.specs.declared.slot.KeySlot.{KeySlot}
 use Rattle.key_file.specs.declared.slot.KeySlot.TheVariants.{Entity, Any, Value, Folded, Fixed}
 use Rattle.key_file.specs.declared.edge.KeyEdge.{KeyEdge}
 use Rattle.key_file.specs.KeyShape.{KeyShape}
-use Rattle.key_file.specs.Key.{all_differ, is_used, IsKey}
+use Rattle.key_file.specs.Key.{all_differ, IsKey}
 use Rattle.key_file.specs.KeyFile.{IsKeyFile}
 use Rattle.key_file.specs.Compile.{slot_of, numbered_edge, shape_of, patterns_of}
 use Rattle.key_file.proofs.CallerLemmas.{key_facts}
 use Rattle.proof_graph.specs.Steps.{SupportShape, StepShape, term_at, step_ends}
 use Rattle.key_file.specs.Numbered.{rdf_type, type_number, names_for, graph_of}
 use Rattle.proof_graph.specs.Tells.{supported_slots as shape_slots}
-use Rattle.proof_graph.specs.Tells.{Tells, TellsAll}
+use Rattle.proof_graph.specs.Tells.{TellsAll}
 use Rattle.proof_check.proofs.SameReason.{supported_same}
-use Rattle.proof_check.specs.Verdict.{key_place, supported_variables, has_shape, are_known, is_known, is_end, is_typed, is_triple, has_triple, has_kind, have_kinds, has_image, have_images, is_constant, are_constants, terms_agree, all_agree, reason_unless, reason_at, reason_of, rejected_or, verdict_after, verdict}
+use Rattle.proof_check.specs.Verdict.{key_place, supported_variables, are_known, is_known, is_end, is_typed, is_triple, has_triple, has_kind, have_kinds, has_image, have_images, is_constant, are_constants, terms_agree, reason_unless, reason_at, reason_of, rejected_or, verdict_after, verdict}
 use Rattle.proof_graph.specs.Tells.{are_earlier, leads_there}
 use Rattle.proof_check.specs.declared.reason.Reason.{Reason}
-use Rattle.proof_check.specs.declared.verdict.Verdict.{Verdict}
-use Rattle.proof_check.specs.declared.verdict.Verdict.TheVariants.{Accepted, Rejected}
-use Rattle.proof_check.proofs.ListFacts.{any_found, any_at, all_from, slots_from, map_at, map_found, at_within, get_or-map, map-map, differ_from}
+use Rattle.proof_check.specs.declared.verdict.Verdict.TheVariants.{Accepted}
+use Rattle.proof_check.proofs.ListFacts.{any_found, any_at, all_from, slots_from, map_at, map_found, at_within, get_or-map, differ_from}
 use Rattle.proof_check.proofs.NameFacts.{AreNames, are_names, slot_named, pred_named, same_place, row_triple, literal_flag}
-use Rattle.proof_check.proofs.ToNumbers.{EndsInside, ends_inside}
+use Rattle.proof_check.proofs.ToNumbers.{ends_inside}
 
 module _ (triples : List Triple) (keys : List KeyShape) (names : List Term) (N : AreNames triples keys names) where
   abbrev G : NumberedGraph

@@ -1,18 +1,17 @@
 -- The names of a graph and its keys.
-use Rattle.std.proofs.Common.{List, [], ◌∷◌, ◌++◌, ℕ, zero, suc, ◌<◌, Bool, true, false, not, Option, Some, None, map, length, slice_get, slice_index, get_or, flat_map, ◌≡◌, ◌≢◌, ◌⊎◌, inl, inr, refl, sym, ap, subst, ◌∙◌, arith, true≢false, IsSomeAnd, Contains, if◌then◌else◌}
+use Rattle.std.proofs.Common.{List, [], ◌∷◌, ◌++◌, ℕ, zero, suc, true, false, Some, None, map, slice_get, get_or, flat_map, ◌≡◌, inl, inr, refl, sym, ap, subst, ◌∙◌, IsSomeAnd, if◌then◌else◌}
 use Rattle.std.proofs.lemmas.Bool.{and_parts, or_cases}
-use Rattle.std.proofs.lemmas.Option.{get_or_from_slice_get, slice_get_within, slice_get-get_or}
-use Rattle.std.specs.List.{list_any, list_all}
+use Rattle.std.proofs.lemmas.Option.{get_or_from_slice_get}
 use Rattle.gk_base.specs.Term.{is_literal}
 use Rattle.gk_base.specs.declared.term.Term.{Term}
 use Rattle.gk_base.specs.declared.term.Triple.{Triple}
 use Rattle.term_list.specs.Triples.{triple_terms, terms_of}
-use Rattle.chase_laws.specs.Graph.{NumberedGraph, HasRow, IsLiteral, HasType, AreAlike}
+use Rattle.chase_laws.specs.Graph.{HasRow, HasType, AreAlike}
 use Rattle.chase_laws.proofs.CallerLemmas.{Contains-from_slice_get, slice_get-from_Contains}
-use Rattle.term_table.specs.Numbering.{same_term, is_named, place_of, with_terms, names_of, AreDistinct}
-use Rattle.term_table.specs.Folding.{folded_term, folds_of}
-use Rattle.term_table.proofs.CallerLemmas.{same_term-true, same_term-refl, slice_get-place_of, place_of-within, place_of-at, is_named-at, is_named-names_of, AreDistinct-names_of}
-use Rattle.term_table.proofs.CallerLemmas.{fold_of, folds_at, fold_of-least}
+use Rattle.term_table.specs.Numbering.{same_term, is_named, place_of, AreDistinct}
+use Rattle.term_table.specs.Folding.{folded_term}
+use Rattle.term_table.proofs.CallerLemmas.{same_term-true, slice_get-place_of, is_named-names_of, AreDistinct-names_of}
+use Rattle.term_table.proofs.CallerLemmas.{folds_at}
 use Rattle.key_file.specs.declared.slot.KeySlot.{KeySlot}
 use Rattle.key_file.specs.declared.edge.KeyEdge.{KeyEdge}
 use Rattle.key_file.specs.KeyShape.{KeyShape}
@@ -20,7 +19,7 @@ use Rattle.key_file.specs.Compile as compile
 use Rattle.key_file.specs.Compile.{slot_terms, key_terms}
 use Rattle.key_file.specs.Numbered.{rdf_type, names_for, row_of, type_number, graph_of}
 use Rattle.proof_check.specs.Verdict.{is_triple, has_triple, is_end, is_known}
-use Rattle.proof_check.proofs.ListFacts.{any_found, any_at, map_at, map_found}
+use Rattle.proof_check.proofs.ListFacts.{any_found, map_at, map_found}
 
 -- lists joined end to end hold what each of them holds
 pub at_left : {X : Type 0} (xs ys : List X) (k : ℕ) (x : X) → slice_get xs k ≡ Some x → slice_get (xs ++ ys) k ≡ Some x

@@ -1,18 +1,14 @@
 -- What the checker makes before it looks at the steps.
-use Rattle.std.proofs.Common.{List, [], ◌∷◌, ◌++◌, ℕ, zero, suc, ◌+◌, ◌*◌, ◌<◌, ◌≤◌, Bool, true, false, Option, Some, None, map, length, slice_get, get_or, bytes_eq, flat_map, ◌≡◌, ◌≢◌, ◌⊎◌, inl, inr, refl, sym, ap, subst, ◌∙◌, arith, true≢false, append_assoc, append-nil, length-append}
-use Rattle.std.proofs.lemmas.Bool.{cases_Bool, false_from_ne_true}
-use Rattle.std.proofs.lemmas.Option.{slice_get_within, slice_get-get_or, get_or_from_slice_get}
+use Rattle.std.proofs.Common.{List, [], ◌∷◌, ◌++◌, ℕ, true, false, Some, map, length, slice_get, flat_map, ◌≡◌, refl, sym, ap, subst, ◌∙◌, arith, append_assoc, append-nil}
+use Rattle.std.proofs.lemmas.Bool.{false_from_ne_true}
+use Rattle.std.proofs.lemmas.Option.{slice_get_within}
 use Rattle.gk_base.specs.declared.term.Term.{Term}
-use Rattle.gk_base.specs.declared.term.Term.TheVariants.{Plain}
-use Rattle.gk_base.specs.declared.term.Triple.{Triple}
 use Rattle.term_table.specs.Numbering.{is_named, place_of, with_term, with_terms, names_of, AreDistinct}
-use Rattle.term_table.proofs.CallerLemmas.{place-is_named, is_named-came, is_named-added, is_named-with_terms, place_of-with_terms, place_of-at, with_term-new}
-use Rattle.key_file.specs.declared.slot.KeySlot.{KeySlot}
+use Rattle.term_table.proofs.CallerLemmas.{place-is_named, is_named-came, is_named-added, place_of-with_terms, place_of-at, with_term-new}
 use Rattle.key_file.specs.declared.edge.KeyEdge.{KeyEdge}
 use Rattle.key_file.specs.KeyShape.{KeyShape}
 use Rattle.key_file.specs.Compile as compile
 use Rattle.key_file.specs.Compile.{slot_terms, key_terms, HasMoreNames}
-use Rattle.key_file.specs.Numbered.{rdf_type}
 use Rattle.proof_check.specs.Prepared.{AreKeyNames}
 use Rattle.proof_check.proofs.ListFacts.{map_at}
 use Rattle.proof_check.proofs.NameFacts.{at_left, at_right, at_flat_map}

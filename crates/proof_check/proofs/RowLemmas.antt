@@ -1,7 +1,6 @@
 -- Sorted rows.
-use Rattle.std.proofs.Common.{List, [], ◌∷◌, ℕ, suc, ◌<◌, ◌≤◌, Bool, true, false, Ordering, nat_eq, ◌==◌, Result, Ok, Err, Contains, length, get_or, ◌≡◌, ◌↔◌, inl, inr, refl, sym, ap, ap₂, subst, ◌∙◌, arith, true≢false, eqb-true}
-use Rattle.std.specs.Result.{is_ok, MatchResult}
-use Rattle.std.specs.List.{HoldsAt, AllWithin}
+use Rattle.std.proofs.Common.{List, [], ◌∷◌, ℕ, Bool, true, false, nat_eq, Result, Ok, Err, Contains, length, get_or, ◌≡◌, ◌↔◌, inl, inr, refl, sym, ap, ap₂, ◌∙◌, arith, true≢false, eqb-true}
+use Rattle.std.specs.Result.{is_ok}
 use Rattle.std.specs.List.Sorted.{IsSorted, IsSearchInRange, IsBinarySearchResult}
 use Rattle.std.specs.Ordering.{nat_cmp, is_eq}
 use Rattle.std.specs.declared.cmp.Ordering.TheVariants.{Less, Equal, Greater}

@@ -1,5 +1,5 @@
 -- The reasons over numbers are those over terms.
-use Rattle.std.proofs.Common.{List, [], ◌∷◌, ◌++◌, ℕ, zero, suc, ◌+◌, ◌-◌, ◌<◌, ◌≤◌, Bool, true, false, not, nat_eq, ◌==◌, ◌&&◌, ◌||◌, Option, Some, None, map, length, slice_get, slice_index, get_or, bytes_eq, All, ◌≡◌, ◌≢◌, ◌⊎◌, inl, inr, refl, sym, ap, ap₂, subst, ◌∙◌, arith, true≢false, eqb-true, eq-eqb, if◌then◌else◌}
+use Rattle.std.proofs.Common.{List, [], ◌∷◌, ℕ, zero, suc, ◌+◌, ◌<◌, Bool, true, false, not, nat_eq, ◌==◌, ◌&&◌, ◌||◌, Option, Some, None, map, length, slice_get, slice_index, get_or, bytes_eq, All, ◌≡◌, inl, inr, refl, sym, ap, ap₂, subst, ◌∙◌, arith, true≢false, eqb-true, eq-eqb, if◌then◌else◌}
 use Rattle.std.specs.Option.{option_map}
 use Rattle.std.specs.List.{list_any, list_all}
 use Rattle.std.proofs.lemmas.Bool.{and_parts, cases_Bool, false_from_ne_true}
@@ -11,11 +11,8 @@ use Rattle.gk_base.specs.Term.{is_literal}
 use Rattle.gk_base.specs.declared.term.Term.{Term}
 use Rattle.gk_base.specs.declared.term.Term.TheVariants.{Plain}
 use Rattle.gk_base.specs.declared.term.Triple.{Triple}
-use Rattle.chase_laws.specs.declared.pattern.Slot.{Slot}
 use Rattle.chase_laws.specs.declared.pattern.Edge.{Edge}
-use Rattle.chase_laws.specs.Shape.{Shape}
-use Rattle.term_table.specs.Numbering.{same_term, is_named, place_of, AreDistinct}
-use Rattle.term_table.specs.Folding.{folded_term}
+use Rattle.term_table.specs.Numbering.{same_term, is_named, place_of}
 use Rattle.term_table.proofs.CallerLemmas.{same_term-true, same_term-refl, slice_get-place_of, place_of-within}
 use Rattle.key_file.specs.declared.slot.KeySlot.{KeySlot}
 use Rattle.key_file.specs.declared.slot.KeySlot.TheVariants.{Entity, Any, Value, Folded, Fixed}
@@ -24,13 +21,13 @@ use Rattle.key_file.specs.KeyShape.{KeyShape}
 use Rattle.key_file.specs.Key.{all_differ}
 use Rattle.key_file.specs.Compile.{slot_terms, slot_of, numbered_edge, shape_of}
 use Rattle.proof_graph.specs.Leads.{other_end, end_along, arrives, links_lead}
-use Rattle.proof_graph.specs.Steps.{SupportShape, StepShape, StepNumbers, step_with, term_at}
+use Rattle.proof_graph.specs.Steps.{SupportShape, StepNumbers, step_with, term_at}
 use Rattle.key_file.specs.Numbered.{rdf_type}
-use Rattle.proof_check.specs.Verdict.{each_slot, variables_from, supported_variables, has_shape, are_known, is_known, is_typed, has_triple, has_kind, have_kinds, has_image, have_images, is_constant, are_constants, terms_agree, all_agree, reason_unless, reason_at}
+use Rattle.proof_check.specs.Verdict.{each_slot, variables_from, supported_variables, has_shape, are_known, is_known, is_typed, has_triple, has_kind, have_kinds, has_image, have_images, is_constant, are_constants, terms_agree, reason_unless, reason_at}
 use Rattle.proof_graph.specs.Tells.{entities_from, supported_slots, are_earlier, places_of, leads_there}
 use Rattle.proof_check.specs.NumberVerdict.{IsLookup, has_row, number_has_kind, number_is_constant, number_is_typed, number_reason, numbers_agree_at, numbers_are_constants, numbers_are_known, numbers_have_images, numbers_have_kinds, numbers_have_shape, numbers_lead_there}
 use Rattle.proof_check.specs.declared.reason.Reason.{Reason}
-use Rattle.proof_check.proofs.ListFacts.{map_at, at_within, get_or-map}
+use Rattle.proof_check.proofs.ListFacts.{map_at, get_or-map}
 use Rattle.proof_check.proofs.ToNumbers.{EndsInside}
 
 -- one test more: what comes after it counts only where it holds

@@ -1,7 +1,7 @@
 -- The verdict over numbers is that over terms.
-use Rattle.std.proofs.Common.{List, [], ◌∷◌, ◌++◌, ℕ, zero, suc, ◌+◌, ◌<◌, ◌≤◌, Bool, true, false, Option, Some, None, map, length, slice_get, slice_index, get_or, All, ◌≡◌, refl, sym, ap, ap₂, subst, ◌∙◌, arith, eqb-true, length-append}
+use Rattle.std.proofs.Common.{List, [], ◌∷◌, ◌++◌, ℕ, zero, suc, ◌+◌, ◌<◌, Option, Some, None, map, length, slice_get, get_or, All, ◌≡◌, refl, sym, ap, ap₂, subst, ◌∙◌, arith, eqb-true, length-append}
 use Rattle.std.specs.Option.{option_map}
-use Rattle.std.proofs.lemmas.Bool.{and_parts, cases_lt}
+use Rattle.std.proofs.lemmas.Bool.{and_parts}
 use Rattle.std.proofs.lemmas.List.{length-map, map-append, get_or_append_left}
 use Rattle.std.proofs.lemmas.Option.{slice_get-map, slice_get_within, get_or_from_slice_get}
 use Rattle.gk_base.specs.declared.term.Term.{Term}
@@ -11,16 +11,15 @@ use Rattle.chase_laws.specs.Shape.{Shape}
 use Rattle.key_file.specs.KeyShape.{KeyShape}
 use Rattle.key_file.specs.Key.{IsKey}
 use Rattle.key_file.specs.KeyFile.{IsKeyFile}
-use Rattle.key_file.specs.Compile.{shape_of, patterns_of}
+use Rattle.key_file.specs.Compile.{shape_of}
 use Rattle.key_file.proofs.CallerLemmas.{key_facts}
-use Rattle.proof_graph.specs.Steps.{StepShape, StepNumbers, step_with, term_at, step_ends, IsNumberedBelow}
+use Rattle.proof_graph.specs.Steps.{StepNumbers, step_with, term_at, step_ends, IsNumberedBelow}
 use Rattle.proof_check.specs.Verdict.{key_place, reason_at, reason_of, rejected_or, verdict_after, verdict}
-use Rattle.proof_check.specs.NumberVerdict.{IsLookup}
-use Rattle.proof_check.specs.Prepared.{both_terms, AreNumberedLinks, AreKeyNames, IsPrepared, reason_by, reason_with, number_ends, verdict_with}
+use Rattle.proof_check.specs.Prepared.{both_terms, AreNumberedLinks, IsPrepared, reason_by, reason_with, number_ends, verdict_with}
 use Rattle.proof_check.specs.declared.lookup.Lookup.{Lookup}
 use Rattle.proof_check.specs.declared.reason.Reason.{Reason}
 use Rattle.proof_check.specs.declared.verdict.Verdict.{Verdict}
-use Rattle.proof_check.specs.declared.verdict.Verdict.TheVariants.{Accepted, Rejected}
+use Rattle.proof_check.specs.declared.verdict.Verdict.TheVariants.{Accepted}
 use Rattle.proof_check.proofs.ListFacts.{get_or-map}
 use Rattle.proof_check.proofs.ToNumbers.{holds_at, ends_inside}
 use Rattle.proof_check.proofs.SameReason.{HasNames, reason_same}

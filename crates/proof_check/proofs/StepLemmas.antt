@@ -1,7 +1,7 @@
 -- Loops of the tests of a step.
-use Rattle.std.proofs.Common.{List, [], ◌∷◌, ◌++◌, ℕ, zero, suc, ◌+◌, ◌-◌, ◌<◌, ◌≤◌, Bool, true, false, nat_eq, nat_lt, ◌==◌, ◌&&◌, Option, Some, None, map, length, slice_get, slice_index, get_or, drop, bytes_eq, All, ◌≡◌, inl, inr, refl, sym, ap, subst, ◌∙◌, arith, true≢false, eqb-true, eq-eqb}
-use Rattle.std.proofs.lemmas.Bool.{and_parts, and_left, and_right, cases_lt, ltb-true, lt-ltb, le-ltb}
-use Rattle.std.proofs.lemmas.List.{drop_more, drop_all, get_or_default, length-map}
+use Rattle.std.proofs.Common.{List, [], ◌∷◌, ℕ, zero, suc, ◌+◌, ◌-◌, ◌<◌, true, false, nat_eq, nat_lt, ◌==◌, ◌&&◌, Some, None, map, length, slice_get, slice_index, get_or, drop, bytes_eq, ◌≡◌, inl, inr, refl, sym, ap, ◌∙◌, arith, true≢false, eqb-true, eq-eqb}
+use Rattle.std.proofs.lemmas.Bool.{and_parts, cases_lt, ltb-true, lt-ltb}
+use Rattle.std.proofs.lemmas.List.{drop_more, drop_all}
 use Rattle.std.proofs.lemmas.Option.{slice_get-get_or, slice_get_within}
 use Rattle.chase_laws.specs.declared.pattern.Slot.{Slot}
 use Rattle.chase_laws.specs.declared.pattern.Slot.TheVariants.{Entity, Any, Value, Folded, Fixed}

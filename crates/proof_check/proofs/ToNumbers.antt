@@ -1,6 +1,6 @@
 -- A step against which there is no reason is a chase step in numbers.
-use Rattle.std.proofs.Common.{List, [], ◌∷◌, ◌++◌, ℕ, zero, suc, ◌+◌, ◌-◌, ◌<◌, ◌≤◌, Bool, true, false, not, ◌==◌, ◌&&◌, Option, Some, None, option_map, map, length, slice_get, slice_index, get_or, bytes_eq, All, ◌≡◌, ◌≢◌, ◌⊎◌, inl, inr, refl, sym, ap, subst, ◌∙◌, arith, true≢false, eqb-true, if◌then◌else◌}
-use Rattle.std.specs.List.{list_any, list_all, AllPairs}
+use Rattle.std.proofs.Common.{List, [], ◌∷◌, ℕ, zero, suc, ◌+◌, ◌<◌, Bool, true, false, not, Option, Some, None, map, length, slice_get, slice_index, get_or, ◌≡◌, ◌≢◌, inl, inr, refl, sym, ap, subst, ◌∙◌, arith, true≢false, eqb-true, if◌then◌else◌}
+use Rattle.std.specs.List.{list_all}
 use Rattle.std.proofs.lemmas.Bool.{and_parts, cases_Bool, not-true, cond-true, cond-false}
 use Rattle.std.proofs.lemmas.List.{length-map}
 use Rattle.std.proofs.lemmas.Slice.Eq.{bytes_eq-Decides}
@@ -9,35 +9,30 @@ use Rattle.gk_base.specs.Term.{is_literal}
 use Rattle.gk_base.specs.declared.term.Term.{Term}
 use Rattle.gk_base.specs.declared.term.Term.TheVariants.{Plain}
 use Rattle.gk_base.specs.declared.term.Triple.{Triple}
-use Rattle.chase_laws.specs.declared.entry.Entry.{Entry}
-use Rattle.chase_laws.specs.declared.pattern.Slot.{Slot}
 use Rattle.chase_laws.specs.declared.pattern.Edge.{Edge}
-use Rattle.chase_laws.specs.Shape.{Shape}
 use Rattle.chase_laws.specs.Graph.{NumberedGraph, HasRow, HasType, IsLiteral}
-use Rattle.chase_laws.specs.Valuation.{FitsSlot, IsValuation, AgreeAt, Coincide, IsMatch}
+use Rattle.chase_laws.specs.Valuation.{FitsSlot, IsValuation, AgreeAt}
 use Rattle.chase_laws.specs.Joined.{joined, links, joined_by}
 use Rattle.chase_laws.specs.Chase.{IsStep}
 use Rattle.chase_laws.proofs.CallerLemmas.{joined_refl, joined_sym, joined_trans, Within-more, joined_head}
-use Rattle.term_table.specs.Numbering.{same_term, is_named, place_of}
-use Rattle.term_table.specs.Folding.{folded_term}
+use Rattle.term_table.specs.Numbering.{same_term, place_of}
 use Rattle.term_table.proofs.CallerLemmas.{same_term-true, same_term-refl}
 use Rattle.key_file.specs.declared.slot.KeySlot.{KeySlot}
 use Rattle.key_file.specs.declared.slot.KeySlot.TheVariants.{Entity, Any, Value, Folded, Fixed}
 use Rattle.key_file.specs.declared.edge.KeyEdge.{KeyEdge}
 use Rattle.key_file.specs.KeyShape.{KeyShape}
 use Rattle.key_file.specs.Key.{may_be_subject, all_differ, IsKey}
-use Rattle.key_file.specs.KeyFile.{IsKeyFile}
 use Rattle.key_file.proofs.CallerLemmas.{key_facts}
 use Rattle.key_file.specs.Compile.{slot_of, numbered_edge, shape_of, patterns_of}
 use Rattle.proof_graph.specs.Leads.{other_end, end_along, arrives, links_lead}
 use Rattle.proof_graph.specs.Steps.{SupportShape, StepShape, term_at, step_ends}
 use Rattle.key_file.specs.Numbered.{rdf_type, graph_of}
-use Rattle.proof_check.specs.Verdict.{key_place, variables_from, supported_variables, has_shape, are_known, is_known, is_typed, has_kind, have_kinds, has_triple, has_image, have_images, is_constant, are_constants, terms_agree, all_agree, reason_unless, reason_at, reason_of}
+use Rattle.proof_check.specs.Verdict.{key_place, variables_from, supported_variables, has_shape, are_known, is_known, is_typed, has_kind, have_kinds, has_triple, has_image, have_images, is_constant, are_constants, terms_agree, all_agree, reason_unless, reason_at}
 use Rattle.proof_graph.specs.Tells.{are_earlier, places_of, leads_there}
 use Rattle.proof_check.specs.declared.reason.Reason.{Reason}
 use Rattle.proof_check.specs.StepEntries.{step_entry, step_entries}
-use Rattle.proof_check.proofs.ListFacts.{any_found, any_at, all_at, slot_test, map_at, map_found, at_within, get_or-map, map-map, differ_at}
-use Rattle.proof_check.proofs.NameFacts.{AreNames, slot_named, pred_named, known_named, same_place, triple_row, literal_flag, type_row, alike_row}
+use Rattle.proof_check.proofs.ListFacts.{all_at, slot_test, map_at, map_found, at_within, get_or-map, differ_at}
+use Rattle.proof_check.proofs.NameFacts.{AreNames, known_named, same_place, triple_row, literal_flag, type_row, alike_row}
 
 -- ---- what the absence of a reason says
 

@@ -1,5 +1,5 @@
 -- The reasons against a step, over numbers of terms, and what is looked up by them (this project's own).
-use Rattle.std.specs.Prelude.{List, [], ◌∷◌, ◌++◌, ℕ, ◌+◌, ◌<◌, ◌≤◌, Bool, true, false, not, nat_eq, ◌==◌, ◌&&◌, ◌||◌, Option, Some, None, IsTrue, bytes_eq, map, length, slice_get, slice_index, slice_index_or, Contains, All, ◌≡◌, ◌↔◌}
+use Rattle.std.specs.Prelude.{List, [], ◌∷◌, ℕ, ◌<◌, Bool, true, false, not, nat_eq, ◌==◌, ◌&&◌, Option, None, bytes_eq, map, length, slice_index, slice_index_or, ◌≡◌}
 use Rattle.std.specs.List.{list_any, list_all}
 use Rattle.gk_base.specs.Term.{is_literal}
 use Rattle.gk_base.specs.declared.term.Term.{Term}
@@ -17,7 +17,7 @@ use Rattle.key_file.specs.Numbered.{rdf_type}
 use Rattle.proof_graph.specs.Tells.{supported_slots, are_earlier, places_of}
 use Rattle.proof_check.specs.Verdict.{each_slot, has_triple, is_known, reason_unless}
 use Rattle.proof_check.specs.declared.reason.Reason.{Reason}
-use Rattle.proof_check.specs.declared.reason.Reason.TheVariants.{UnknownKey, WrongShape, TermNotInTheGraph, TermTwice, WrongKindOrType, TripleMissing, ConstantDiffers, ValueDiffers, SupportNotEarlier, SupportDoesNotLeadThere}
+use Rattle.proof_check.specs.declared.reason.Reason.TheVariants.{WrongShape, TermNotInTheGraph, TermTwice, WrongKindOrType, TripleMissing, ConstantDiffers, ValueDiffers, SupportNotEarlier, SupportDoesNotLeadThere}
 
 -- whether there is the row of these three numbers
 abbrev pub has_row : List (List ℕ) → ℕ → ℕ → ℕ → Bool

@@ -1,5 +1,5 @@
 -- What the checker has made before it looks at the steps (this project's own).
-use Rattle.std.specs.Prelude.{List, [], ◌∷◌, ◌++◌, ℕ, ◌+◌, ◌<◌, ◌≤◌, true, slice_index, Option, Some, None, All, length, map, slice_get, ◌≡◌}
+use Rattle.std.specs.Prelude.{List, [], ◌∷◌, ◌++◌, ℕ, ◌+◌, ◌<◌, true, slice_index, Option, Some, None, length, slice_get, ◌≡◌}
 use Rattle.std.specs.Ordering.{nat_cmp}
 use Rattle.std.specs.Cmp.Lexicographic.{slice_cmp}
 use Rattle.std.specs.List.Sorted.{IsSorted}
@@ -15,7 +15,7 @@ use Rattle.proof_graph.specs.Steps.{StepNumbers, term_at}
 use Rattle.proof_check.specs.NumberVerdict.{IsLookup, number_reason}
 use Rattle.proof_check.specs.Verdict.{key_place, rejected_or}
 use Rattle.proof_check.specs.declared.verdict.Verdict.{Verdict}
-use Rattle.proof_check.specs.declared.verdict.Verdict.TheVariants.{Accepted, Rejected}
+use Rattle.proof_check.specs.declared.verdict.Verdict.TheVariants.{Accepted}
 use Rattle.proof_check.specs.declared.reason.Reason.{Reason}
 use Rattle.proof_check.specs.declared.reason.Reason.TheVariants.{UnknownKey}
 use Rattle.proof_check.specs.declared.lookup.Lookup.{Lookup}

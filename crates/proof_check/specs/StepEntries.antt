@@ -1,5 +1,5 @@
 -- The steps of a proof as entries, which have numbers where steps have terms (this project's own).
-use Rattle.std.specs.Prelude.{List, ℕ, map}
+use Rattle.std.specs.Prelude.{List, map}
 use Rattle.gk_base.specs.declared.term.Term.{Term}
 use Rattle.chase_laws.specs.declared.entry.Entry.{Entry}
 use Rattle.term_table.specs.Numbering.{place_of}

@@ -1,7 +1,7 @@
 -- What the checker is to say of a proof: of terms and of the list of triples, without numbers or search (this project's
 -- own).
-use Rattle.std.specs.Prelude.{List, [], ◌∷◌, ◌++◌, ℕ, ◌+◌, ◌-◌, Bool, true, false, not, nat_le, ◌==◌, ◌&&◌, ◌||◌, Option, Some, None, bytes_eq, map, length, filter, slice_get, slice_index_or, if◌then◌else◌}
-use Rattle.std.specs.List.{list_any, list_all, range_with_len, position_or_len}
+use Rattle.std.specs.Prelude.{List, [], ◌∷◌, ◌++◌, ℕ, ◌+◌, Bool, true, not, ◌==◌, ◌&&◌, ◌||◌, Option, Some, None, bytes_eq, map, length, slice_get, if◌then◌else◌}
+use Rattle.std.specs.List.{list_any, list_all, position_or_len}
 use Rattle.gk_base.specs.Term.{is_literal}
 use Rattle.gk_base.specs.declared.term.Term.{Term}
 use Rattle.gk_base.specs.declared.term.Triple.{Triple}
@@ -11,7 +11,7 @@ use Rattle.key_file.specs.declared.slot.KeySlot.{KeySlot}
 use Rattle.key_file.specs.declared.slot.KeySlot.TheVariants.{Entity, Any, Value, Folded, Fixed}
 use Rattle.key_file.specs.declared.edge.KeyEdge.{KeyEdge}
 use Rattle.key_file.specs.KeyShape.{KeyShape}
-use Rattle.key_file.specs.Key.{is_entity_variable, all_differ}
+use Rattle.key_file.specs.Key.{all_differ}
 use Rattle.proof_graph.specs.Tells.{are_earlier, leads_there}
 use Rattle.proof_graph.specs.Steps.{SupportShape, StepShape, term_at, step_ends}
 use Rattle.key_file.specs.Numbered.{rdf_type}

@@ -1,4 +1,4 @@
-use Rattle.std.proofs.Common.{List, ℕ, ◌≡◌, All, IfOk, map, length, sym, ap, ◌∙◌, subst, []}
+use Rattle.std.proofs.Common.{◌≡◌, All, IfOk, map, length, sym, ap, ◌∙◌, subst, []}
 use Rattle.term_table.specs.Numbering.{AreDistinct}
 use Rattle.term_table.proofs.CallerLemmas.{AreDistinct-names_of}
 use Rattle.key_file.specs.KeyFile.{IsKeyFile}

@@ -1,4 +1,4 @@
-use Rattle.std.proofs.Common.{length, subst, sym, List}
+use Rattle.std.proofs.Common.{length, subst, sym}
 use Rattle.proof_graph.specs.Steps.{IsNumberedBelow}
 use Rattle.proof_check.proofs.checking.judge_all.Goals as goal
 

@@ -1,4 +1,4 @@
-use Rattle.std.proofs.Common.{ℕ, ◌≡◌, length, drop, []}
+use Rattle.std.proofs.Common.{◌≡◌, length, drop, []}
 use Rattle.proof_check.specs.Prepared.{verdict_with}
 use Rattle.proof_check.proofs.checking.judge_all.Given as goal
 

@@ -1,6 +1,5 @@
-use Rattle.std.proofs.Common.{ℕ, ◌<◌, ◌≤◌, ◌≡◌, bytes_eq, length, get_or, arith, sym, ap, ◌∙◌, true, false, []}
+use Rattle.std.proofs.Common.{bytes_eq, length, arith, sym, ap, ◌∙◌, []}
 use Rattle.std.proofs.lemmas.List.Sums.{position_or_len_is}
-use Rattle.std.proofs.lemmas.List.{get_or_default}
 use Rattle.key_file.specs.KeyShape.{KeyShape}
 use Rattle.proof_check.proofs.checking.key_place.Goals as goal
 

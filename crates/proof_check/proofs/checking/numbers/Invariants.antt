@@ -1,4 +1,4 @@
-use Rattle.std.proofs.Common.{ℕ, ◌≡◌, ◌≤◌, length, take}
+use Rattle.std.proofs.Common.{◌≡◌, ◌≤◌, length, take}
 use Rattle.term_table.specs.Numbering.{names_of}
 use Rattle.proof_check.proofs.checking.numbers.Given as goal
 

@@ -1,12 +1,10 @@
-use Rattle.std.proofs.Common.{List, ℕ, ◌+◌, ◌*◌, ◌<◌, ◌≤◌, ◌≡◌, ◌++◌, length, arith, sym, ap, ◌∙◌, subst, []}
-use Rattle.gk_base.specs.declared.term.Term.{Term}
-use Rattle.term_table.specs.Numbering.{place_of, with_term, with_terms, names_of}
+use Rattle.std.proofs.Common.{length, arith, sym, ap, ◌∙◌, subst, []}
+use Rattle.term_table.specs.Numbering.{place_of}
 use Rattle.term_table.proofs.CallerLemmas.{length-with_term, length-with_terms}
 use Rattle.key_file.specs.Compile.{key_terms, patterns_of, HasMoreNames}
 use Rattle.key_file.proofs.CallerLemmas.{HasGrown-with_term}
-use Rattle.key_file.specs.Numbered.{rdf_type}
 use Rattle.proof_check.specs.NumberVerdict.{IsLookup}
-use Rattle.proof_check.specs.Prepared.{IsPrepared, AreKeyNames}
+use Rattle.proof_check.specs.Prepared.{AreKeyNames}
 use Rattle.proof_check.proofs.PreparedLemmas.{key_names, kind_stays, begins_with}
 use Rattle.proof_check.proofs.checking.prepare.Goals as goal
 

@@ -1,5 +1,5 @@
-use Rattle.std.proofs.Common.{subst, sym, true, ◌≡◌}
-use Rattle.chase_laws.specs.Shape.{Shape, IsPattern}
+use Rattle.std.proofs.Common.{subst}
+use Rattle.chase_laws.specs.Shape.{IsPattern}
 use Rattle.proof_check.proofs.StepLemmas.{has_places}
 use Rattle.proof_check.proofs.judging.shape_tells.Goals as goal
 

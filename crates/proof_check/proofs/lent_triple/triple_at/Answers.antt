@@ -1,4 +1,4 @@
-use Rattle.std.proofs.Common.{ℕ, ◌<◌, ◌*◌, ◌+◌, Some, length, slice_get, arith, sym, ap, ◌∙◌}
+use Rattle.std.proofs.Common.{◌*◌, ◌+◌, length, slice_get, arith, sym, ap, ◌∙◌}
 use Rattle.term_list.proofs.CallerLemmas.{length-terms_of}
 use Rattle.proof_check.proofs.TripleFacts.{triple_read}
 use Rattle.proof_check.proofs.lent_triple.triple_at.Goals as goal

@@ -1,4 +1,4 @@
-use Rattle.std.proofs.Common.{length, sym, ap, ◌∙◌, subst}
+use Rattle.std.proofs.Common.{length, ap, ◌∙◌, subst}
 use Rattle.gk_base.specs.declared.term.Triple.{Triple}
 use Rattle.proof_check.specs.Rows.{with_mark, MarksEnds}
 use Rattle.proof_check.proofs.LookupLemmas.{number_within, ends_marked, with_mark_count}

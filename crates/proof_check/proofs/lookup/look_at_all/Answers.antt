@@ -1,9 +1,7 @@
-use Rattle.std.proofs.Common.{ℕ, ◌<◌, ◌≡◌, ◌++◌, ◌||◌, false, length, take, slice_index_or, sym, ap, ◌∙◌, arith}
-use Rattle.std.specs.List.{filter_map}
+use Rattle.std.proofs.Common.{◌++◌, ◌||◌, sym, ap, ◌∙◌}
 use Rattle.std.specs.Option.{option_to_list}
-use Rattle.std.proofs.lemmas.List.{take_all}
 use Rattle.proof_graph.specs.Steps.{term_at}
-use Rattle.proof_check.specs.Verdict.{is_known, is_end}
+use Rattle.proof_check.specs.Verdict.{is_end}
 use Rattle.proof_check.specs.Rows.{row_in}
 use Rattle.proof_check.proofs.LookupLemmas.{rows_more, known_more}
 use Rattle.proof_check.proofs.lookup.look_at_all.Goals as goal

@@ -1,4 +1,4 @@
-use Rattle.std.proofs.Common.{ℕ, ◌≡◌, drop, slice_index}
+use Rattle.std.proofs.Common.{◌≡◌, drop, slice_index}
 use Rattle.proof_check.specs.Verdict.{each_slot}
 use Rattle.proof_check.specs.NumberVerdict.{number_is_constant, numbers_are_constants}
 use Rattle.proof_check.proofs.side.are_constants.Given as goal

@@ -1,4 +1,4 @@
-use Rattle.std.proofs.Common.{ℕ, ◌≡◌, drop, nat_eq}
+use Rattle.std.proofs.Common.{◌≡◌, drop, nat_eq}
 use Rattle.key_file.specs.Key.{all_differ}
 use Rattle.proof_check.proofs.side.are_different.Given as goal
 

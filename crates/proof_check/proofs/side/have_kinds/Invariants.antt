@@ -1,4 +1,4 @@
-use Rattle.std.proofs.Common.{ℕ, ◌≡◌, drop}
+use Rattle.std.proofs.Common.{◌≡◌, drop}
 use Rattle.proof_check.specs.Verdict.{each_slot}
 use Rattle.proof_check.specs.NumberVerdict.{number_has_kind, numbers_have_kinds}
 use Rattle.std.proofs.Common.{slice_index}

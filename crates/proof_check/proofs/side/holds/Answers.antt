@@ -1,4 +1,4 @@
-use Rattle.std.proofs.Common.{ℕ, ◌≡◌, ◌∷◌, []}
+use Rattle.std.proofs.Common.{◌∷◌, []}
 use Rattle.proof_check.proofs.RowLemmas.{row_test}
 use Rattle.proof_check.proofs.side.holds.Goals as goal
 

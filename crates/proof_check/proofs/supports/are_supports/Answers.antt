@@ -1,6 +1,5 @@
-use Rattle.std.proofs.Common.{ℕ, ◌<◌, ◌≤◌, ◌-◌, ◌+◌, ◌≡◌, ◌&&◌, ◌==◌, nat_lt, nat_eq, bytes_eq, map, slice_index, true, false, Option, Some, None, length, slice_get, get_or, drop, arith, sym, ap, ◌∙◌, subst}
+use Rattle.std.proofs.Common.{◌+◌, ◌==◌, nat_lt, bytes_eq, map, slice_index, length, drop, arith, sym, ap, ◌∙◌}
 use Rattle.std.proofs.lemmas.Bool.{and_parts, ltb-true}
-use Rattle.chase_laws.specs.declared.pattern.Slot.{Slot}
 use Rattle.chase_laws.specs.declared.pattern.Slot.TheVariants.{Entity}
 use Rattle.proof_graph.specs.Steps.{SupportShape}
 use Rattle.proof_graph.specs.Tells.{entities_from}

@@ -1,4 +1,4 @@
-use Rattle.std.proofs.Common.{ℕ, ◌≡◌, ◌<◌, ◌≤◌, ◌+◌, ◌⊎◌, drop, length, map, bytes_eq}
+use Rattle.std.proofs.Common.{◌≡◌, ◌≤◌, drop, length, map, bytes_eq}
 use Rattle.proof_graph.specs.Steps.{SupportShape}
 use Rattle.proof_graph.specs.Tells.{entities_from, supported_slots}
 use Rattle.proof_check.proofs.supports.are_supports.Given as goal

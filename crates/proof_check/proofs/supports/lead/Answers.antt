@@ -1,6 +1,6 @@
-use Rattle.std.proofs.Common.{ℕ, ◌<◌, ◌≤◌, ◌-◌, ◌+◌, ◌≡◌, nat_eq, false, Option, Some, None, length, slice_get, get_or, drop, arith, sym, ap, ◌∙◌}
+use Rattle.std.proofs.Common.{◌-◌, ◌+◌, nat_eq, get_or, drop, arith, sym, ap, ◌∙◌}
 use Rattle.std.proofs.lemmas.Option.{slice_get-get_or}
-use Rattle.proof_graph.specs.Leads.{other_end, end_along, arrives, links_lead}
+use Rattle.proof_graph.specs.Leads.{end_along, arrives}
 use Rattle.proof_graph.specs.Tells.{places_of}
 use Rattle.proof_check.proofs.StepLemmas.{lead_step, end_along_nowhere}
 use Rattle.proof_check.proofs.supports.lead.Goals as goal

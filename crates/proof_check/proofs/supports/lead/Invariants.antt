@@ -1,5 +1,5 @@
-use Rattle.std.proofs.Common.{ℕ, ◌≡◌, drop, nat_eq, Some}
-use Rattle.proof_graph.specs.Leads.{arrives, end_along, links_lead}
+use Rattle.std.proofs.Common.{◌≡◌, drop, nat_eq}
+use Rattle.proof_graph.specs.Leads.{links_lead}
 use Rattle.proof_graph.specs.Tells.{places_of}
 use Rattle.proof_check.proofs.supports.lead.Given as goal
 

@@ -1,4 +1,4 @@
-use Rattle.std.proofs.Common.{ℕ, ◌≡◌, drop, slice_index}
+use Rattle.std.proofs.Common.{◌≡◌, drop, slice_index}
 use Rattle.proof_check.specs.Verdict.{each_slot}
 use Rattle.proof_check.specs.NumberVerdict.{numbers_agree_at, numbers_agree}
 use Rattle.proof_check.proofs.values.all_agree.Given as goal

@@ -1,8 +1,5 @@
-use Rattle.std.proofs.Common.{ℕ, ◌<◌, ◌≡◌, false, length, slice_index_or, arith, sym, ap, ◌∙◌}
-use Rattle.std.specs.List.{filter_map}
+use Rattle.std.proofs.Common.{false, length, slice_index_or, arith, ap, ◌∙◌}
 use Rattle.std.proofs.lemmas.List.{with_items_is}
-use Rattle.proof_graph.specs.Steps.{term_at}
-use Rattle.proof_check.specs.Verdict.{is_known}
 use Rattle.proof_check.specs.NumberVerdict.{has_row}
 use Rattle.proof_check.proofs.LookupLemmas.{rows_same, row_order}
 use Rattle.proof_check.proofs.lookup.Lookup.new.Goals as goal
