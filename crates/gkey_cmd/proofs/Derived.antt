@@ -126,8 +126,8 @@ told_links names K key_names H steps distinct facts supported tells = links_told
         let first = (facts e.key s.pattern s.key).first in
         let some : 0 < length s.pattern.slots = slice_get_within s.pattern.slots 0 (Entity first.0) first.1 in
         ap₂ (λ (m n : ℕ). (m, n))
-            (ap (λ side. place_of names (term_at side 0)) t.left ∙ first_number names distinct e.left e.a (omega (arith, s.left_count)) s.left_named s.at_a)
-            (ap (λ side. place_of names (term_at side 0)) t.right ∙ first_number names distinct e.right e.b (omega (arith, s.right_count)) s.right_named s.at_b)
+        (ap (λ side. place_of names (term_at side 0)) t.left ∙ first_number names distinct e.left e.a (omega (arith, s.left_count)) s.left_named s.at_a)
+        (ap (λ side. place_of names (term_at side 0)) t.right ∙ first_number names distinct e.right e.b (omega (arith, s.right_count)) s.right_named s.at_b)
 
 -- ---- a lean journal is short
 

@@ -41,7 +41,8 @@ pub const NO_WORDS: u8 = 6;
 pub(crate) const NO_COMMAND: u8 = 64;
 
 /// The text of `NO_COMMAND`.
-pub(crate) const USAGE: &[u8] = b"usage:\n  gkey match GRAPH KEYS\n  gkey prove GRAPH KEYS\n  gkey check GRAPH KEYS PROOF\n  gkey convert PROOF\n";
+pub(crate) const USAGE: &[u8] =
+    b"usage:\n  gkey match GRAPH KEYS\n  gkey prove GRAPH KEYS\n  gkey check GRAPH KEYS PROOF\n  gkey convert PROOF\n";
 
 /// What a text calls a file.
 fn file_text(file: File) -> &'static [u8]

@@ -32,7 +32,9 @@ pub enum Command<'w> {
         proof: &'w Text,
     },
     /// Print a proof of either version in version 2.
-    Convert { proof: &'w Text },
+    Convert {
+        proof: &'w Text,
+    },
 }
 
 /// The command that the words after the program's name ask for. None comes exactly where they ask for none. It takes

@@ -108,7 +108,8 @@ const OTHER_YEAR: &str = "\
 
 const YEAR_KEY: &[u8] = b"key c <urn:Album>\n?x <urn:year> \"1996\"\nend\n";
 
-const YEAR_PROOF: &str = "gkey-proof 1\nstep c\nleft <urn:al1> \"Anthology 2\"\nright <urn:al2> \"1996\"\ndone\nend 1\n";
+const YEAR_PROOF: &str =
+    "gkey-proof 1\nstep c\nleft <urn:al1> \"Anthology 2\"\nright <urn:al2> \"1996\"\ndone\nend 1\n";
 
 const STREETS: &str = "\
 <urn:u1> % <urn:T> .\n<urn:u2> % <urn:T> .\n<urn:u3> % <urn:T> .
@@ -119,7 +120,8 @@ const FOLDED_KEY: &[u8] = b"key k <urn:T>\nfolded $v\n?x <urn:p> $v\nend\n";
 
 const VALUE_KEY: &[u8] = b"key k <urn:T>\nvalue $v\n?x <urn:p> $v\nend\n";
 
-const STREET_PROOF: &str = "gkey-proof 1\nstep k\nleft <urn:u1> \"Straße\"\nright <urn:u2> \"STRASSE\"\ndone\nend 1\n";
+const STREET_PROOF: &str =
+    "gkey-proof 1\nstep k\nleft <urn:u1> \"Straße\"\nright <urn:u2> \"STRASSE\"\ndone\nend 1\n";
 
 const PROVE: &[&str] = &["prove", "g", "k"];
 
@@ -128,20 +130,118 @@ const CHECK: &[&str] = &["check", "g", "k", "p"];
 const CONVERT: &[&str] = &["convert", "p"];
 
 static ROWS: [Row; 14] = [
-    Row { words: PROVE, graph: ALBUM_LINES, keys: ALBUM_KEY, proof: "", status: 0, out: ALBUM_PROOF },
-    Row { words: PROVE, graph: "", keys: ALBUM_KEY, proof: "", status: 0, out: NO_STEPS },
-    Row { words: CHECK, graph: "", keys: ALBUM_KEY, proof: NO_STEPS, status: 0, out: "accepted 0\n" },
-    Row { words: CHECK, graph: ALBUM_LINES, keys: ALBUM_KEY, proof: ALBUM_PROOF, status: 0, out: "accepted 1\n" },
-    Row { words: CHECK, graph: ALBUM_LINES, keys: ALBUM_KEY, proof: ALBUM_PROOF_1, status: 0, out: "accepted 1\n" },
-    Row { words: CHECK, graph: ALBUMS_AND_ARTISTS, keys: ALBUM_AND_ARTIST_KEYS, proof: THREE_STEPS_1, status: 0, out: "accepted 3\n" },
-    Row { words: CHECK, graph: ALBUMS_AND_ARTISTS, keys: ALBUM_AND_ARTIST_KEYS, proof: THREE_STEPS, status: 0, out: "accepted 3\n" },
-    Row { words: CHECK, graph: ALBUM_LINES, keys: YEAR_KEY, proof: YEAR_PROOF, status: 1, out: "rejected 1: triple missing\n" },
-    Row { words: CHECK, graph: OTHER_YEAR, keys: YEAR_KEY, proof: YEAR_PROOF, status: 1, out: "rejected 1: constant differs\n" },
-    Row { words: CHECK, graph: STREETS, keys: FOLDED_KEY, proof: STREET_PROOF, status: 0, out: "accepted 1\n" },
-    Row { words: CHECK, graph: STREETS, keys: VALUE_KEY, proof: STREET_PROOF, status: 1, out: "rejected 1: value differs\n" },
-    Row { words: CONVERT, graph: "", keys: b"", proof: ALBUM_PROOF_1, status: 0, out: ALBUM_PROOF },
-    Row { words: CONVERT, graph: "", keys: b"", proof: THREE_STEPS_1, status: 0, out: THREE_STEPS },
-    Row { words: CONVERT, graph: "x", keys: b"x", proof: THREE_STEPS, status: 0, out: THREE_STEPS },
+    Row {
+        words: PROVE,
+        graph: ALBUM_LINES,
+        keys: ALBUM_KEY,
+        proof: "",
+        status: 0,
+        out: ALBUM_PROOF,
+    },
+    Row {
+        words: PROVE,
+        graph: "",
+        keys: ALBUM_KEY,
+        proof: "",
+        status: 0,
+        out: NO_STEPS,
+    },
+    Row {
+        words: CHECK,
+        graph: "",
+        keys: ALBUM_KEY,
+        proof: NO_STEPS,
+        status: 0,
+        out: "accepted 0\n",
+    },
+    Row {
+        words: CHECK,
+        graph: ALBUM_LINES,
+        keys: ALBUM_KEY,
+        proof: ALBUM_PROOF,
+        status: 0,
+        out: "accepted 1\n",
+    },
+    Row {
+        words: CHECK,
+        graph: ALBUM_LINES,
+        keys: ALBUM_KEY,
+        proof: ALBUM_PROOF_1,
+        status: 0,
+        out: "accepted 1\n",
+    },
+    Row {
+        words: CHECK,
+        graph: ALBUMS_AND_ARTISTS,
+        keys: ALBUM_AND_ARTIST_KEYS,
+        proof: THREE_STEPS_1,
+        status: 0,
+        out: "accepted 3\n",
+    },
+    Row {
+        words: CHECK,
+        graph: ALBUMS_AND_ARTISTS,
+        keys: ALBUM_AND_ARTIST_KEYS,
+        proof: THREE_STEPS,
+        status: 0,
+        out: "accepted 3\n",
+    },
+    Row {
+        words: CHECK,
+        graph: ALBUM_LINES,
+        keys: YEAR_KEY,
+        proof: YEAR_PROOF,
+        status: 1,
+        out: "rejected 1: triple missing\n",
+    },
+    Row {
+        words: CHECK,
+        graph: OTHER_YEAR,
+        keys: YEAR_KEY,
+        proof: YEAR_PROOF,
+        status: 1,
+        out: "rejected 1: constant differs\n",
+    },
+    Row {
+        words: CHECK,
+        graph: STREETS,
+        keys: FOLDED_KEY,
+        proof: STREET_PROOF,
+        status: 0,
+        out: "accepted 1\n",
+    },
+    Row {
+        words: CHECK,
+        graph: STREETS,
+        keys: VALUE_KEY,
+        proof: STREET_PROOF,
+        status: 1,
+        out: "rejected 1: value differs\n",
+    },
+    Row {
+        words: CONVERT,
+        graph: "",
+        keys: b"",
+        proof: ALBUM_PROOF_1,
+        status: 0,
+        out: ALBUM_PROOF,
+    },
+    Row {
+        words: CONVERT,
+        graph: "",
+        keys: b"",
+        proof: THREE_STEPS_1,
+        status: 0,
+        out: THREE_STEPS,
+    },
+    Row {
+        words: CONVERT,
+        graph: "x",
+        keys: b"x",
+        proof: THREE_STEPS,
+        status: 0,
+        out: THREE_STEPS,
+    },
 ];
 
 /// Whether a command leaves this of a graph, keys and a proof.
@@ -199,20 +299,91 @@ const REFUSED: Changed = Changed {
 };
 
 static CHANGED: [Changed; 14] = [
-    Changed { old: "by 1 1", new: "by 1 2", out: "rejected 2: support not earlier\n", ..REJECTED },
-    Changed { old: "by 1 1", new: "by 1", out: "rejected 2: support does not lead there\n", ..REJECTED },
-    Changed { old: "step album_year", new: "step nokey", out: "rejected 1: unknown key\n", ..REJECTED },
-    Changed { old: "left <urn:al1> \"Anthology 2\" \"1996\"", new: "left <urn:al1> \"Anthology 2\"", out: "rejected 1: wrong shape\n", ..REJECTED },
-    Changed { old: "left <urn:al1> \"Anthology 2\" \"1996\"", new: "left <urn:al9> \"Anthology 2\" \"1996\"", out: "rejected 1: term not in the graph\n", ..REJECTED },
-    Changed { old: "left <urn:al1> \"Anthology 2\" \"1996\"", new: "left <urn:al1> \"Anthology 2\" \"Anthology 2\"", out: "rejected 1: term twice\n", ..REJECTED },
-    Changed { old: "left <urn:al1> \"Anthology 2\" \"1996\"", new: "left <urn:ar1> \"Anthology 2\" \"1996\"", out: "rejected 1: wrong kind or type\n", ..REJECTED },
-    Changed { old: "right <urn:al2> \"Anthology 2\" \"1996\"", new: "right <urn:al3> \"Anthology 2\" \"1996\"", out: "rejected 1: triple missing\n", ..REJECTED },
-    Changed { old: "right <urn:al4> <urn:ar2> \"Help!\"", new: "right <urn:al2> <urn:ar2> \"Anthology 2\"", out: "rejected 3: value differs\n", ..REJECTED },
-    Changed { old: "by 1 2", new: "by 1 3", out: "rejected 3: support not earlier\n", ..REJECTED },
-    Changed { old: "end 3", new: "end 2", status: 2, err: "proof:16: count differs\n", ..REJECTED },
-    Changed { old: "right 10 7 9", new: "right 11 7 9", err: "proof:24: term number out of range\n", ..REFUSED },
-    Changed { old: "right 10 7 9", new: "right 010 7 9", err: "proof:24: bad line\n", ..REFUSED },
-    Changed { old: "gkey-proof 2", new: "gkey-proof 3", err: "proof:1: bad header\n", ..REFUSED },
+    Changed {
+        old: "by 1 1",
+        new: "by 1 2",
+        out: "rejected 2: support not earlier\n",
+        ..REJECTED
+    },
+    Changed {
+        old: "by 1 1",
+        new: "by 1",
+        out: "rejected 2: support does not lead there\n",
+        ..REJECTED
+    },
+    Changed {
+        old: "step album_year",
+        new: "step nokey",
+        out: "rejected 1: unknown key\n",
+        ..REJECTED
+    },
+    Changed {
+        old: "left <urn:al1> \"Anthology 2\" \"1996\"",
+        new: "left <urn:al1> \"Anthology 2\"",
+        out: "rejected 1: wrong shape\n",
+        ..REJECTED
+    },
+    Changed {
+        old: "left <urn:al1> \"Anthology 2\" \"1996\"",
+        new: "left <urn:al9> \"Anthology 2\" \"1996\"",
+        out: "rejected 1: term not in the graph\n",
+        ..REJECTED
+    },
+    Changed {
+        old: "left <urn:al1> \"Anthology 2\" \"1996\"",
+        new: "left <urn:al1> \"Anthology 2\" \"Anthology 2\"",
+        out: "rejected 1: term twice\n",
+        ..REJECTED
+    },
+    Changed {
+        old: "left <urn:al1> \"Anthology 2\" \"1996\"",
+        new: "left <urn:ar1> \"Anthology 2\" \"1996\"",
+        out: "rejected 1: wrong kind or type\n",
+        ..REJECTED
+    },
+    Changed {
+        old: "right <urn:al2> \"Anthology 2\" \"1996\"",
+        new: "right <urn:al3> \"Anthology 2\" \"1996\"",
+        out: "rejected 1: triple missing\n",
+        ..REJECTED
+    },
+    Changed {
+        old: "right <urn:al4> <urn:ar2> \"Help!\"",
+        new: "right <urn:al2> <urn:ar2> \"Anthology 2\"",
+        out: "rejected 3: value differs\n",
+        ..REJECTED
+    },
+    Changed {
+        old: "by 1 2",
+        new: "by 1 3",
+        out: "rejected 3: support not earlier\n",
+        ..REJECTED
+    },
+    Changed {
+        old: "end 3",
+        new: "end 2",
+        status: 2,
+        err: "proof:16: count differs\n",
+        ..REJECTED
+    },
+    Changed {
+        old: "right 10 7 9",
+        new: "right 11 7 9",
+        err: "proof:24: term number out of range\n",
+        ..REFUSED
+    },
+    Changed {
+        old: "right 10 7 9",
+        new: "right 010 7 9",
+        err: "proof:24: bad line\n",
+        ..REFUSED
+    },
+    Changed {
+        old: "gkey-proof 2",
+        new: "gkey-proof 3",
+        err: "proof:1: bad header\n",
+        ..REFUSED
+    },
 ];
 
 /// The text with this line changed.
@@ -227,7 +398,10 @@ fn with_line<R: AllocGlobal>(rt: &R, text: &str, old: &str, new: &str) -> Result
 }
 
 /// Whether a command leaves this where the line is changed.
-fn change_holds<R: AllocGlobal + Threads + Wait + Sync>(rt: &R, row: &Changed) -> Result<bool, Fail> {
+fn change_holds<R: AllocGlobal + Threads + Wait + Sync>(
+    rt: &R,
+    row: &Changed,
+) -> Result<bool, Fail> {
     let graph = with_types(rt.alloc(), ALBUMS_AND_ARTISTS.as_bytes())?;
     let proof = with_line(rt, row.proof, row.old, row.new)?;
     let case = Case {
@@ -252,23 +426,37 @@ fn the_first_step_that_fails_is_named_with_its_reason(rt: HostRuntime) -> Result
 }
 
 /// A check of the albums.
-const CHECKED: Case<'static> = Case {
-    words: CHECK,
-    graph: ALBUMS,
-    proof: ALBUM_PROOF.as_bytes(),
-    out: b"accepted 1\n",
-    ..GOOD
-};
+fn checked() -> Case<'static> {
+    Case {
+        words: CHECK,
+        graph: ALBUMS,
+        proof: ALBUM_PROOF.as_bytes(),
+        out: b"accepted 1\n",
+        ..GOOD
+    }
+}
 
 #[test]
 fn a_proof_file_comes_last(rt: HostRuntime) -> Result<(), Fail> {
     let refused = [
-        (b"<a>".as_slice(), b"x".as_slice(), "graph:1: relative IRI\n"),
+        (
+            b"<a>".as_slice(),
+            b"x".as_slice(),
+            "graph:1: relative IRI\n",
+        ),
         (ALBUMS, b"x", "keys:1: unknown statement\n"),
         (ALBUMS, ALBUM_KEY, "proof:2: bad line\n"),
     ];
     for (row, (graph, keys, err)) in refused.into_iter().enumerate() {
-        let case = Case { graph, keys, proof: b"gkey-proof 1\nx", status: 2, out: b"", err, ..CHECKED };
+        let case = Case {
+            graph,
+            keys,
+            proof: b"gkey-proof 1\nx",
+            status: 2,
+            out: b"",
+            err,
+            ..checked()
+        };
         assert!(rt; holds(&rt, &case)?, "row {row}");
     }
     let early = Case {
@@ -277,16 +465,19 @@ fn a_proof_file_comes_last(rt: HostRuntime) -> Result<(), Fail> {
         status: 2,
         out: b"",
         err: "proof:1: proof ends early\n",
-        ..CHECKED
+        ..checked()
     };
     assert!(rt; holds(&rt, &early)?);
     let long = Case {
         words: CONVERT,
-        limits: Limits { bytes: 10, ..Limits::STANDARD },
+        limits: Limits {
+            bytes: 10,
+            ..Limits::STANDARD
+        },
         status: 2,
         out: b"",
         err: "proof:1: file too long\n",
-        ..CHECKED
+        ..checked()
     };
     assert!(rt; holds(&rt, &long)?);
     Ok(())
@@ -294,15 +485,63 @@ fn a_proof_file_comes_last(rt: HostRuntime) -> Result<(), Fail> {
 
 #[test]
 fn a_proof_file_that_can_not_be_read_is_named(rt: HostRuntime) -> Result<(), Fail> {
-    let unread = Case { status: 3, out: b"", err: "proof: read failed\n", ..CHECKED };
+    let unread = Case {
+        status: 3,
+        out: b"",
+        err: "proof: read failed\n",
+        ..checked()
+    };
     for call in 7u64..10 {
-        assert!(rt; holds(&rt, &Case { reads: &[call], ..unread })?, "call {call}");
+        assert!(rt;
+            holds(
+                &rt,
+                &Case {
+                    reads: &[call],
+                    ..unread
+                }
+            )?,
+            "call {call}"
+        );
     }
-    assert!(rt; holds(&rt, &Case { words: &["check", "g", "k", "none"], ..unread })?);
+    assert!(rt;
+        holds(
+            &rt,
+            &Case {
+                words: &["check", "g", "k", "none"],
+                ..unread
+            }
+        )?
+    );
     for call in 1u64..4 {
-        assert!(rt; holds(&rt, &Case { words: CONVERT, reads: &[call], ..unread })?, "call {call}");
+        assert!(rt;
+            holds(
+                &rt,
+                &Case {
+                    words: CONVERT,
+                    reads: &[call],
+                    ..unread
+                }
+            )?,
+            "call {call}"
+        );
     }
-    assert!(rt; holds(&rt, &Case { words: &["convert", "none"], ..unread })?);
-    assert!(rt; holds(&rt, &Case { reads: &[10], ..CHECKED })?);
+    assert!(rt;
+        holds(
+            &rt,
+            &Case {
+                words: &["convert", "none"],
+                ..unread
+            }
+        )?
+    );
+    assert!(rt;
+        holds(
+            &rt,
+            &Case {
+                reads: &[10],
+                ..checked()
+            }
+        )?
+    );
     Ok(())
 }
