@@ -14,12 +14,19 @@ use key_lang::KeyFile;
 use match_run::classes;
 use pair_seed::SeedStop;
 use std::alloc::Global;
+use std::thread::Threads;
 use term_text::report;
 
 /// The report of the classes of equal entities.
 ///
 /// `TooManyPairs` comes exactly where there are more candidate pairs than `limit`, and `NoMemory` where memory ran out.
-fn report_of(alloc: Global, rows: Rows, keys: &KeyFile, limit: u64) -> Result<Vec<u8>, SeedStop>
+fn report_of<Rt: Threads + Sync>(
+    rt: &Rt,
+    alloc: Global,
+    rows: Rows,
+    keys: &KeyFile,
+    limit: u64,
+) -> Result<Vec<u8>, SeedStop>
     requires few { AreFew rows }
     requires limit { limit < 2 ^ 32 }
     ensures report { IfOk result (λ text. (triples : List AnyTriple) → StandFor rows triples → IsReport triples keys.now text.items) }
@@ -28,18 +35,24 @@ fn report_of(alloc: Global, rows: Rows, keys: &KeyFile, limit: u64) -> Result<Ve
 {
     law_rows();
     let numbered = number(alloc, rows, keys)?;
-    let labels = classes(alloc, numbered.graph, numbered.patterns, limit)?;
+    let labels = classes(rt, alloc, numbered.graph, numbered.patterns, limit)?;
     let report = report(alloc, &numbered.names, &labels)?;
     Ok(report.into_vec())
 }
 
 /// The report of a match whose files are read, or the ending of a run that has none.
-pub fn match_files(alloc: Global, rows: Rows, keys: &KeyFile, limit: u64) -> Result<Vec<u8>, Ending>
+pub fn match_files<Rt: Threads + Sync>(
+    rt: &Rt,
+    alloc: Global,
+    rows: Rows,
+    keys: &KeyFile,
+    limit: u64,
+) -> Result<Vec<u8>, Ending>
     requires few { AreFew rows }
     requires limit { limit < 2 ^ 32 }
     ensures { (triples : List AnyTriple) → StandFor rows triples → MatchEnds triples keys.now limit result }
 {
-    match report_of(alloc, rows, keys, limit) {
+    match report_of(rt, alloc, rows, keys, limit) {
         Ok(text) => Ok(text),
         Err(Stop::NoMemory) => Err(Ending::NoMemory),
         Err(Stop::Fault(_)) => Err(Ending::Refused(Refusal::MorePairsThan(limit))),

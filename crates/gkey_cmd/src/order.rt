@@ -20,6 +20,7 @@ use graph_rows::{load, read_rows, read_triples};
 use key_lang::KeyFile;
 use proof_graph::Proof;
 use std::alloc::Global;
+use std::thread::Threads;
 
 /// The keys of the key file, or the ending of a run that can't have them. It is loaded whole before it is judged.
 fn read_keys<S: Shelf>(
@@ -67,7 +68,8 @@ fn read_proof<S: Shelf>(
 }
 
 /// The report of `match`, or the ending of a run that has none: the graph comes first, then the key file, then the chase.
-pub(crate) fn matched<S: Shelf>(
+pub(crate) fn matched<Rt: Threads + Sync, S: Shelf>(
+    rt: &Rt,
     alloc: Global,
     shelf: &mut S,
     graph: &Text,
@@ -80,11 +82,12 @@ pub(crate) fn matched<S: Shelf>(
 {
     let rows = read_rows(alloc, shelf, graph, limits)?;
     let read = read_keys(alloc, shelf, keys, limits)?;
-    match_files(alloc, rows, &read, limits.pairs)
+    match_files(rt, alloc, rows, &read, limits.pairs)
 }
 
 /// The proof of `prove`, or the ending of a run that has none: the files come as for `match`, then the chase.
-pub(crate) fn proved<S: Shelf>(
+pub(crate) fn proved<Rt: Threads + Sync, S: Shelf>(
+    rt: &Rt,
     alloc: Global,
     shelf: &mut S,
     graph: &Text,
@@ -97,7 +100,7 @@ pub(crate) fn proved<S: Shelf>(
 {
     let numbered = read_rows(alloc, shelf, graph, limits)?;
     let known = read_keys(alloc, shelf, keys, limits)?;
-    prove_files(alloc, numbered, &known, limits.pairs)
+    prove_files(rt, alloc, numbered, &known, limits.pairs)
 }
 
 /// The answer of `check` and its text, or the ending of a run that has none: the graph comes first, then the key file, then

@@ -21,6 +21,7 @@ use pair_seed::SeedStop;
 use proof_check::law_proof;
 use proof_graph::{build_proof, law_proof_read_back, put_proof};
 use std::alloc::Global;
+use std::thread::Threads;
 use term_table::Names;
 
 /// The names of keys, in their order.
@@ -62,7 +63,13 @@ fn journal_text(
 /// The text of a proof of all that is the same.
 ///
 /// `TooManyPairs` comes exactly where there are more candidate pairs than `limit`, and `NoMemory` where memory ran out.
-fn proof_of(alloc: Global, rows: Rows, keys: &KeyFile, limit: u64) -> Result<Vec<u8>, SeedStop>
+fn proof_of<Rt: Threads + Sync>(
+    rt: &Rt,
+    alloc: Global,
+    rows: Rows,
+    keys: &KeyFile,
+    limit: u64,
+) -> Result<Vec<u8>, SeedStop>
     requires few { AreFew rows }
     requires limit { limit < 2 ^ 32 }
     ensures proof { IfOk result (λ text. (triples : List AnyTriple) → StandFor rows triples → IsProofOfFiles triples keys.now text.items) }
@@ -73,18 +80,24 @@ fn proof_of(alloc: Global, rows: Rows, keys: &KeyFile, limit: u64) -> Result<Vec
     law_chase();
     law_proof();
     let numbered = number(alloc, rows, keys)?;
-    let prepared = prepare(alloc, numbered.graph, numbered.patterns, limit)?;
+    let prepared = prepare(rt, alloc, numbered.graph, numbered.patterns, limit)?;
     let text = journal_text(alloc, &prepared.setup, &numbered.names, keys.keys())?;
     Ok(text)
 }
 
 /// The proof of a chase whose files are read, or the ending of a run that has none.
-pub fn prove_files(alloc: Global, rows: Rows, keys: &KeyFile, limit: u64) -> Result<Vec<u8>, Ending>
+pub fn prove_files<Rt: Threads + Sync>(
+    rt: &Rt,
+    alloc: Global,
+    rows: Rows,
+    keys: &KeyFile,
+    limit: u64,
+) -> Result<Vec<u8>, Ending>
     requires few { AreFew rows }
     requires limit { limit < 2 ^ 32 }
     ensures { (triples : List AnyTriple) → StandFor rows triples → ProveEnds triples keys.now limit result }
 {
-    match proof_of(alloc, rows, keys, limit) {
+    match proof_of(rt, alloc, rows, keys, limit) {
         Ok(text) => Ok(text),
         Err(Stop::NoMemory) => Err(Ending::NoMemory),
         Err(Stop::Fault(_)) => Err(Ending::Refused(Refusal::MorePairsThan(limit))),

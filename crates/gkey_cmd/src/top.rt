@@ -36,17 +36,23 @@ fn answered(answer: Result<(Answer, Vec<u8>), Ending>) -> Ending
 }
 
 /// How a run ends before anything is written.
-fn decide<S: Shelf>(alloc: Global, words: &[Text], shelf: &mut S, limits: &Limits) -> Ending
+fn decide<Rt: Threads + Sync, S: Shelf>(
+    rt: &Rt,
+    alloc: Global,
+    words: &[Text],
+    shelf: &mut S,
+    limits: &Limits,
+) -> Ending
     requires { AreAtMostStandard limits.now }
     ensures { Caused S.Shelf shelf.old shelf.new (wanted words.now) limits.now result }
 {
     match read_words(words) {
         None => Ending::NoCommand,
         Some(Command::Match { graph, keys, .. }) => {
-            given(matched(alloc, shelf, graph, keys, limits))
+            given(matched(rt, alloc, shelf, graph, keys, limits))
         }
         Some(Command::Prove { graph, keys, .. }) => {
-            given(proved(alloc, shelf, graph, keys, limits))
+            given(proved(rt, alloc, shelf, graph, keys, limits))
         }
         Some(Command::Check { graph, keys, proof }) => {
             answered(checked(alloc, shelf, graph, keys, proof, limits))
@@ -61,7 +67,7 @@ fn decide<S: Shelf>(alloc: Global, words: &[Text], shelf: &mut S, limits: &Limit
 /// The words are those after the program's name. The files are found and read in their order, up to the first that
 /// fails or is refused; then the chase runs and its text is made; then it is written.
 pub fn run_with<Rt: Threads + Wait + Sync, S: Shelf, O: Sink, E: Sink>(
-    _rt: &Rt,
+    rt: &Rt,
     alloc: Global,
     words: &[Text],
     shelf: &mut S,
@@ -72,7 +78,7 @@ pub fn run_with<Rt: Threads + Wait + Sync, S: Shelf, O: Sink, E: Sink>(
     requires { AreAtMostStandard limits.now }
     ensures { IsRun S.Shelf O.Sink E.Sink (wanted words.now) limits.now shelf.old shelf.new out.old out.new err.old err.new result }
 {
-    let ending = decide(alloc, words, shelf, limits);
+    let ending = decide(rt, alloc, words, shelf, limits);
     finish(alloc, &ending, out, err)
 }
 
