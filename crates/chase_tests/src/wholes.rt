@@ -1,13 +1,14 @@
 //! Whole matches.
 
-use fixtures::worked_graphs::albums;
-use fixtures::worked_patterns::{ALBUM_BY, ARTIST, NAME_AND_CODE};
+use fixtures::worked_graphs::{albums, two_pairs};
+use fixtures::worked_patterns::{ALBUM_BY, ARTIST, NAME_AND_CODE, NAME_AND_NEXT};
 use fixtures::{GraphTable, PatternTable, patterns_of};
 use match_run::{classes, prepare};
 use pair_seed::{SeedStop, TooManyPairs};
 use std::alloc::Global;
 use std::process::Abort;
 use std::test::Fail;
+use std::thread::Threads;
 
 /// Whether labels are equal exactly where these numbers are.
 fn are_labels(labels: &[u32], wanted: &[u32]) -> bool {
@@ -25,18 +26,23 @@ fn are_labels(labels: &[u32], wanted: &[u32]) -> bool {
 }
 
 /// Whether the classes of a graph by a case's keys are those of the case.
-fn has_classes(alloc: Global, table: &GraphTable<'_>, case: &Case) -> Result<bool, Fail> {
+fn has_classes<R: Threads + Sync>(
+    rt: &R,
+    alloc: Global,
+    table: &GraphTable<'_>,
+    case: &Case,
+) -> Result<bool, Fail> {
     let graph = table.build(alloc)?;
     let keys = patterns_of(alloc, case.keys)?;
-    let labels = classes(alloc, graph, keys, u64::from(case.limit))?;
+    let labels = classes(rt, alloc, graph, keys, u64::from(case.limit))?;
     Ok(are_labels(&labels, case.wanted))
 }
 
 /// How many candidate pairs the albums have by all keys, or how many are told where there are too many.
-fn seeded(alloc: Global, limit: u32) -> Result<Result<u64, u64>, Fail> {
+fn seeded<R: Threads + Sync>(rt: &R, alloc: Global, limit: u32) -> Result<Result<u64, u64>, Fail> {
     let graph = albums().build(alloc)?;
     let keys = patterns_of(alloc, together().keys)?;
-    match prepare(alloc, graph, keys, u64::from(limit)) {
+    match prepare(rt, alloc, graph, keys, u64::from(limit)) {
         Ok(prepared) => Ok(Ok(prepared.seeded)),
         Err(SeedStop::Fault(TooManyPairs { found })) => Ok(Err(found)),
         Err(SeedStop::NoMemory) => Ok(Err(0)),
@@ -99,35 +105,52 @@ fn by_no_key() -> &'static Case {
 fn keys_support_one_another_in_any_order_of_rows(rt: HostRuntime) -> Result<(), Fail> {
     let alloc = rt.alloc();
     let table = albums();
-    assert!(rt; has_classes(alloc, &table, together())?);
+    assert!(rt; has_classes(&rt, alloc, &table, together())?);
     let mut rows = table.rows.to_vec(alloc)?;
     rows.reverse();
     let reversed = GraphTable {
         rows: &rows,
         ..table
     };
-    assert!(rt; has_classes(alloc, &reversed, together())?);
+    assert!(rt; has_classes(&rt, alloc, &reversed, together())?);
     Ok(())
 }
 
 #[test]
 fn candidate_pairs_are_counted_against_the_limit(rt: HostRuntime) -> Result<(), Fail> {
     for (limit, wanted) in [(4, Ok(3)), (3, Ok(3)), (2, Err(3)), (0, Err(1))] {
-        let is = seeded(rt.alloc(), limit)? == wanted;
+        let is = seeded(&rt, rt.alloc(), limit)? == wanted;
         assert!(rt; is, "limit {limit}");
     }
     Ok(())
 }
 
+/// One key, by which two pairs are candidates, of which one has no next ones.
+static NEXT: [PatternTable<'static>; 1] = [NAME_AND_NEXT];
+
+fn next() -> &'static [PatternTable<'static>] {
+    &NEXT
+}
+
+#[test]
+fn the_filter_comes_after_the_count(rt: HostRuntime) -> Result<(), Fail> {
+    let graph = two_pairs().build(rt.alloc())?;
+    let keys = patterns_of(rt.alloc(), next())?;
+    let prepared = prepare(&rt, rt.alloc(), graph, keys, 2)?;
+    assert_eq!(rt; prepared.seeded, 2);
+    assert_eq!(rt; prepared.setup.pairs(), [(8, 9)].as_slice());
+    Ok(())
+}
+
 #[test]
 fn pairs_that_only_support_each_other_stay_apart(rt: HostRuntime) -> Result<(), Fail> {
-    assert!(rt; has_classes(rt.alloc(), &albums(), apart())?);
+    assert!(rt; has_classes(&rt, rt.alloc(), &albums(), apart())?);
     Ok(())
 }
 
 #[test]
 fn one_key_finds_its_own_pair(rt: HostRuntime) -> Result<(), Fail> {
-    assert!(rt; has_classes(rt.alloc(), &albums(), by_year())?);
-    assert!(rt; has_classes(rt.alloc(), &albums(), by_no_key())?);
+    assert!(rt; has_classes(&rt, rt.alloc(), &albums(), by_year())?);
+    assert!(rt; has_classes(&rt, rt.alloc(), &albums(), by_no_key())?);
     Ok(())
 }
