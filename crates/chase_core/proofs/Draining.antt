@@ -15,7 +15,7 @@ use Rattle.chase_laws.specs.Valuation.{IsMatch}
 use Rattle.chase_laws.specs.Joined.{Joined}
 use Rattle.chase_laws.specs.Chase.{IsStep}
 use Rattle.chase_laws.specs.View.{same_by}
-use Rattle.chase_laws.specs.Core.{Task, IsTask, State, IsSound, EndsApart, ListsNear, IsPresent, Event, Happens, Run, IsFinished, Wakes, name_count, set_each}
+use Rattle.chase_laws.specs.Core.{Task, IsTask, State, IsSound, EndsApart, PairAt, ListsNear, IsPresent, Event, Happens, Run, IsFinished, Wakes, name_count, set_each}
 use Rattle.chase_laws.specs.Core.Event.{Take}
 use Rattle.list_pool.specs.Pool.{without}
 use Rattle.chase_core.specs.declared.ticket.Ticket.{Ticket}
@@ -27,9 +27,10 @@ use Rattle.chase_core.specs.Setup.{Preparation}
 use Rattle.chase_core.specs.Table.{IsReadyList}
 use Rattle.chase_core.specs.Running.{Running, state_in, IsRunning}
 use Rattle.chase_core.specs.Taking.{TakesFirst}
-use Rattle.chase_core.specs.Settling.{entry_of, IsFoundBy, IsRightOutcome, Settles}
+use Rattle.chase_core.specs.Settling.{entry_of, Settles}
 use Rattle.std.proofs.lemmas.List.{length_push}
 use Rattle.class_book.specs.Classes.{Classes}
+use Rattle.chase_core.proofs.Ends.{same_parts}
 use Rattle.chase_core.proofs.Members.{Contains-nil, filter_short}
 use Rattle.chase_core.proofs.Tables.{set_here, set_other}
 use Rattle.chase_core.proofs.Aside.{length-set_each}
@@ -66,6 +67,13 @@ ready_short states ready r =
 less_by_one : (p j k r s : ℕ) → j < p → k ≡ j + 1 → s ≤ p → (p - k) * (p + 1) + s < (p - j) * (p + 1) + r
 less_by_one p j k r s lt e le = let d : p - j ≡ (p - k) + 1 = omega arith in rw d (omega arith)
 
+-- the ends of the pair that was handed out are not joined
+pub taken_apart : (old mid : Running) (t : Ticket) → mid.book ≡ old.book → TakesFirst old mid (Some t.pair) → PairAt old.setup.task t.pair t.a t.b → ¬ (Joined mid.book.journal t.a t.b)
+taken_apart old mid t book takes at =
+    let k = takes.event.1.1 in
+    let e = same_parts (slice_get old.setup.task.pairs t.pair) t.a t.b k.0 k.1 at k.2 in
+    λ j. k.3 (subst (λ n. Joined old.book.journal n k.1) e.0 (subst (Joined old.book.journal t.a) e.1 (subst (λ (B : Classes). Joined B.journal t.a t.b) book j)))
+
 module _ (law : CoreLaw) (old mid : Running) (t : Ticket) (running : IsRunning old) (setup : mid.setup ≡ old.setup) (book : mid.book ≡ old.book) (takes : TakesFirst old mid (Some t.pair)) where
   mid_states : mid.table.states ≡ slice_set (set_each old.table.states takes.passed state.Joined) t.pair state.Flying
   mid_states = ap (λ (S : State). S.pairs) takes.event.2
@@ -76,13 +84,6 @@ module _ (law : CoreLaw) (old mid : Running) (t : Ticket) (running : IsRunning o
 
   pub mid_task : IsTask mid.setup.task
   mid_task = subst (λ (S : Preparation). IsTask S.task) (sym setup) running.task
-
-  -- what the search found is right
-  pub right : (view : List (ℕ × ℕ)) (found : Outcome) → ListsNear mid.setup.task t.a t.b view → IsPresent (state_in mid) view → IsFoundBy mid.setup.task t view found → IsRightOutcome mid.setup.task (state_in mid) t view found
-  right view (outcome.Found f) near present h =
-      law.found mid.setup.task.graph mid.setup.task.patterns mid.book.journal (entry_of t f) h.0 (same_by view) h.1 h.2
-      (law.shown mid.setup.task mid_task (state_in mid) mid_sound t.a t.b view near present)
-  right view outcome.Missed near present h = h
 
   fewer : length mid.table.ready < length old.table.ready
   fewer = omega (arith, ap length takes.front, length-append (takes.passed ++ t.pair ∷ []) mid.table.ready, length-append takes.passed (t.pair ∷ []))

@@ -9,6 +9,7 @@ pub mod Holding
 -- inner invariants and words of the proofs
 pub mod Inner
 pub mod Kept
+pub mod Present
 pub mod Gathering
 pub mod Passing
 pub mod Shown

@@ -13,12 +13,12 @@ ghost use Rattle.chase_core.specs.Running.{state_in, IsRunning};
 ghost use Rattle.chase_core.specs.Taking.{TakesFirst, TakesHint, pair_of};
 ghost use Rattle.chase_core.specs.Holding.{IsHeld};
 ghost use Rattle.chase_core.specs.Settling.{IsRightOutcome, RiseInOrder, Settles, Notes};
+ghost use Rattle.chase_core.specs.Present.{SettlesPresent};
 
 use crate::recall::recall_parts;
-use crate::settle::settle_parts;
+use crate::settle::{settle_parts, settle_present};
 use crate::table::PairTable;
-use crate::take::take_parts;
-use crate::tried::outcome_of;
+use crate::take::{take_first_parts, take_parts};
 use crate::{Matched, Outcome, Settled, Setup, Ticket, Woken};
 use chase_laws::PairState;
 use chase_laws::core_law::law_core;
@@ -165,26 +165,54 @@ impl<'a> Chase<'a> {
         recall_parts(self.setup, &mut self.table);
     }
 
-    /// Searches and settles pairs until no pair is Ready. No pair may be Flying, and the view has to have room for the
-    /// setup's widest view. Afterwards every pair is Missed or Joined, and the journal begins with what it was.
-    pub fn drain(&mut self, view: &mut View, woken: &mut Woken)
+    /// Searches and settles pairs until no pair is Ready. No pair may be Flying. Afterwards every pair is Missed or Joined,
+    /// and the journal begins with what it was. Each pair is searched by the present labels: no one else enters anything
+    /// meanwhile, so there is no view to show and none to compare.
+    pub fn drain(&mut self, woken: &mut Woken)
         requires landed { (p : ℕ) → slice_get self.old.table.states p ≢ Some state.Flying }
-        requires room { self.old.setup.widest ≤ view.old.room }
         ensures finished { IsFinished (state_in self.new) }
         ensures run { (events : List Event) × Run self.old.setup.task (state_in self.old) events (state_in self.new) }
         ensures grows { (more : List Entry) × (self.new.book.journal ≡ self.old.book.journal ++ more) }
         ensures setup { self.new.setup ≡ self.old.setup }
-        ensures room { view.new.room ≡ view.old.room }
         ensures woken_room { woken.new.room ≡ woken.old.room }
     {
         law_core();
         self.holds();
-        while let Some(ticket) = self.take(None, view) {
-            let outcome = outcome_of(self.setup, &ticket, view);
-            self.settle(ticket, view, outcome, woken);
+        while let Some(ticket) = self.take_first() {
+            self.settle_at_once(ticket, woken);
             self.holds();
         }
         self.holds();
+    }
+
+    /// Hands out what `take` does without a hint, and shows nothing.
+    fn take_first(&mut self) -> Option<Ticket>
+        ensures takes { TakesFirst self.old self.new (pair_of result) }
+        ensures ends { IfSome result (λ t. PairAt self.old.setup.task t.pair t.a t.b) }
+        ensures setup { self.new.setup ≡ self.old.setup }
+        ensures book { self.new.book ≡ self.old.book }
+    {
+        law_core();
+        take_first_parts(self.setup, &self.book, &mut self.table)
+    }
+
+    /// Searches for a pair whose ends are not joined by the present labels, and settles it.
+    fn settle_at_once(&mut self, ticket: Ticket, woken: &mut Woken) -> Settled
+        requires ends { PairAt self.old.setup.task ticket.pair ticket.a ticket.b }
+        requires apart { ¬ (Joined self.old.book.journal ticket.a ticket.b) }
+        ensures settles { SettlesPresent self.old ticket result self.new }
+        ensures setup { self.new.setup ≡ self.old.setup }
+        ensures woken_room { woken.new.room ≡ woken.old.room }
+    {
+        law_core();
+        settle_present(
+            self.setup,
+            &mut self.book,
+            &mut self.table,
+            &mut self.aside,
+            ticket,
+            woken,
+        )
     }
 
     /// The labels and the journal. It takes no memory.

@@ -13,6 +13,7 @@
 //! - `table`: where the pairs stand, and the Ready list
 //! - `take`: which pair is handed out
 //! - `show`: two lists of names, shown with their labels
+//! - `present`: what is the same by the present labels
 //! - `settle`: what becomes of a pair that was searched
 //! - `gather`: the pairs whose ends an entry brings together, set aside
 //! - `wake`: pairs that were set aside, made Ready
@@ -23,6 +24,7 @@
 mod chase;
 mod gather;
 pub mod held_law;
+mod present;
 mod recall;
 mod settle;
 mod setup;

@@ -9,17 +9,19 @@ ghost use Rattle.chase_laws.specs.Core.Event.{Enter};
 ghost use Rattle.paired_search.specs.Held.{Ascends};
 ghost use Rattle.list_pool.specs.Pool.{without};
 ghost use Rattle.chase_core.specs.Running.{state_of, running_with, journal_room};
-ghost use Rattle.chase_core.specs.Settling.{IsRightOutcome, IsFirstOvertaken, RiseInOrder, Settles, Notes};
+ghost use Rattle.chase_core.specs.Settling.{entry_of, IsRightOutcome, IsFirstOvertaken, RiseInOrder, Settles, Notes};
 ghost use Rattle.chase_core.specs.Inner.{SettlesMissed};
+ghost use Rattle.chase_core.specs.Present.{SettlesPresent};
 
 use crate::gather::gather_across;
 use crate::table::PairTable;
+use crate::tried::find_present;
 use crate::wake::wake_each;
 use crate::{Outcome, Settled, Setup, Ticket, Woken};
 use chase_laws::core_law::law_core;
 use chase_laws::{Entry, PairState};
 use class_book::Book;
-use paired_search::View;
+use paired_search::{Finding, View};
 
 /// The first name of a pair's view whose label is not the present one, with the label in the view and the present one.
 fn overtaken(setup: &Setup, book: &Book, ticket: Ticket, view: &View) -> Option<(u32, u32, u32)>
@@ -40,6 +42,19 @@ fn overtaken(setup: &Setup, book: &Book, ticket: Ticket, view: &View) -> Option<
         }
     }
     None
+}
+
+/// The identification of a pair by what was found.
+fn entry_of(ticket: Ticket, finding: Finding) -> Entry
+    ensures { result ≡ entry_of ticket finding }
+{
+    Entry {
+        a: ticket.a,
+        b: ticket.b,
+        key: finding.key,
+        left: finding.left,
+        right: finding.right,
+    }
 }
 
 /// Enters what was found for a pair whose ends are not joined, and makes the Missed pairs Ready whose ends it brings
@@ -141,15 +156,45 @@ pub fn settle_parts(
     match outcome {
         Outcome::Missed => settle_missed(setup, book, table, ticket, view),
         Outcome::Found(finding) => {
-            let entry = Entry {
-                a: ticket.a,
-                b: ticket.b,
-                key: finding.key,
-                left: finding.left,
-                right: finding.right,
-            };
+            let entry = entry_of(ticket, finding);
             let place = enter_found(setup, book, table, aside, ticket.pair, entry, woken);
             Settled::Entered(place)
+        }
+    }
+}
+
+/// Searches for a pair whose ends are not joined by the present labels, and settles it. Nothing is compared: between the
+/// search and what it leads to nothing can be entered.
+pub fn settle_present(
+    setup: &Setup,
+    book: &mut Book,
+    table: &mut PairTable,
+    aside: &mut Vec<u32>,
+    ticket: Ticket,
+    woken: &mut Woken,
+) -> Settled
+    requires sound { IsSound setup.now.task (state_of book.old table.old) }
+    requires ends { PairAt setup.now.task ticket.pair ticket.a ticket.b }
+    requires apart { ¬ (Joined book.old.journal ticket.a ticket.b) }
+    requires room { book.old.room ≡ journal_room setup.now.task }
+    requires aside { length setup.now.task.pairs ≤ vec_capacity aside.old }
+    ensures settles { SettlesPresent (running_with setup.now book.old table.old) ticket result (running_with setup.now book.new table.new) }
+    ensures room { book.new.room ≡ book.old.room }
+    ensures aside { vec_capacity aside.new ≡ vec_capacity aside.old }
+    ensures woken_room { woken.new.room ≡ woken.old.room }
+{
+    law_core();
+    setup.prepared();
+    woken.clear();
+    match find_present(setup, book, ticket) {
+        Some(finding) => {
+            let entry = entry_of(ticket, finding);
+            let place = enter_found(setup, book, table, aside, ticket.pair, entry, woken);
+            Settled::Entered(place)
+        }
+        None => {
+            table.mark(ticket.pair, PairState::Missed);
+            Settled::Missed
         }
     }
 }

@@ -122,3 +122,17 @@ pub fn take_parts(
     let pair = next?;
     Some(hand_out(setup, book, table, pair, view))
 }
+
+/// Takes a pair as `take_parts` does without a hint, and shows nothing.
+pub fn take_first_parts(setup: &Setup, book: &Book, table: &mut PairTable) -> Option<Ticket>
+    requires labels { length book.now.labels ≡ name_count setup.now.task }
+    requires states { length table.old.states ≡ length setup.now.task.pairs }
+    ensures takes { TakesFirst (running_with setup.now book.now table.old) (running_with setup.now book.now table.new) (pair_of result) }
+    ensures ends { IfSome result (λ t. PairAt setup.now.task t.pair t.a t.b) }
+{
+    table.listed();
+    let pair = pass_over(setup, book, table)?;
+    let ticket = ticket_of(setup, pair);
+    table.mark(pair, PairState::Flying);
+    Some(ticket)
+}

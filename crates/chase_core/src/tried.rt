@@ -1,9 +1,16 @@
 //! Searches for a pair that was handed out.
 
+ghost use Rattle.std.specs.Prelude.{◌≡◌, IfSome, IfNone, Some, length, slice_get};
+ghost use Rattle.chase_laws.specs.Shape.{Shape};
+ghost use Rattle.chase_laws.specs.Valuation.{IsMatch, Matches};
+ghost use Rattle.chase_laws.specs.Core.{name_count};
 ghost use Rattle.chase_core.specs.Settling.{IsFoundBy};
+ghost use Rattle.chase_core.specs.Present.{same_by_labels};
 
+use crate::present::PresentLabels;
 use crate::{Outcome, Setup, Ticket};
-use paired_search::{View, search};
+use class_book::Book;
+use paired_search::{Finding, View, search};
 
 /// Searches for a pair by a view of what is near to its ends.
 pub fn outcome_of(setup: &Setup, ticket: &Ticket, view: &View) -> Outcome
@@ -14,4 +21,17 @@ pub fn outcome_of(setup: &Setup, ticket: &Ticket, view: &View) -> Outcome
         Some(finding) => Outcome::Found(finding),
         None => Outcome::Missed,
     }
+}
+
+/// Searches for a pair by the present labels.
+pub fn find_present(setup: &Setup, book: &Book, ticket: Ticket) -> Option<Finding>
+    requires labels { length book.now.labels ≡ name_count setup.now.task }
+    ensures found { IfSome result (λ f. (Q : Shape) × (slice_get setup.now.task.patterns f.key ≡ Some Q)
+        × IsMatch setup.now.task.graph Q (same_by_labels book.now.labels) ticket.a ticket.b f.left f.right) }
+    ensures none { IfNone result (¬ (Matches setup.now.task.graph setup.now.task.patterns (same_by_labels book.now.labels) ticket.a ticket.b)) }
+{
+    let graph = setup.graph();
+    let labels = PresentLabels::new(book, graph.names());
+    let Ticket { a, b, .. } = ticket;
+    search(graph, setup.patterns(), setup.plans(), a, b, &labels)
 }

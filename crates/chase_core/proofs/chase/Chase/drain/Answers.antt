@@ -1,16 +1,14 @@
 -- Each turn is two events, and leaves less to do.
 use Rattle.std.proofs.Common.{List, ◌++◌, [], sym, ◌∙◌, ap, refl, subst, append-nil, append_assoc}
-use Rattle.chase_laws.specs.Core.{Event, Run, ListsNear}
+use Rattle.chase_laws.specs.Core.{Event, Run, PairAt}
 use Rattle.chase_core.specs.Setup.{Preparation}
-use Rattle.chase_core.specs.Running.{Running, state_in}
-use Rattle.chase_core.specs.Settling.{IsFoundBy}
-use Rattle.chase_core.proofs.Draining.{CoreLaw, right, landed, goes_on, less, two_more, finished, one_more}
+use Rattle.chase_core.specs.Running.{state_in}
+use Rattle.chase_core.proofs.Draining.{CoreLaw, taken_apart, landed, goes_on, less, two_more, finished, one_more}
 use Rattle.chase_core.proofs.chase.Chase.drain.Goals as goal
 
 pub loop-ticket-init : goal.loop-ticket-init
 loop-ticket-init c = record {
   setup = refl;
-  room = refl;
   woken_room = refl;
   running = c.holds.ensures.running;
   landed = c.requires.landed;
@@ -18,26 +16,23 @@ loop-ticket-init c = record {
   grows = ([], sym (append-nil c.args.self.now.book.journal));
 }
 
-pub settle-requires-clause-view : goal.settle-requires-clause-view
-settle-requires-clause-view c = subst (λ (S : Preparation). ListsNear S.task c.in-Some.ticket.a c.in-Some.ticket.b c.take.new.view.pairs) (sym c.in-Some.ensures.setup) c.in-Some.ensures.near
-
-pub settle-requires-clause-outcome : goal.settle-requires-clause-outcome
-settle-requires-clause-outcome c =
-    let law : CoreLaw = record { event = c.law_core.ensures.event; shown = c.law_core.ensures.shown; found = c.law_core.ensures.found; room = c.law_core.ensures.room } in
+pub settle_at_once-requires-clause-ends : goal.settle_at_once-requires-clause-ends
+settle_at_once-requires-clause-ends c =
     let e = c.in-Some.ensures in
-    let old = c.loop-ticket.self in
-    let mid = c.take.new.self in
-    let view = c.take.new.view.pairs in
-    let near = subst (λ (S : Preparation). ListsNear S.task c.in-Some.ticket.a c.in-Some.ticket.b view) (sym e.setup) e.near in
-    right law old mid c.in-Some.ticket c.loop-ticket.invariant.running e.setup e.book e.takes view c.outcome_of-outcome.result near e.present
-    (subst (λ (C : Running). IsFoundBy C.setup.task c.in-Some.ticket view c.outcome_of-outcome.result) c.self.view_is c.outcome_of-outcome.ensures)
+    subst (λ (S : Preparation). PairAt S.task c.in-Some.ticket.pair c.in-Some.ticket.a c.in-Some.ticket.b) (sym e.setup) e.ends
+
+pub settle_at_once-requires-clause-apart : goal.settle_at_once-requires-clause-apart
+settle_at_once-requires-clause-apart c =
+    let e = c.in-Some.ensures in
+    taken_apart c.loop-ticket.self c.take_first.new.self c.in-Some.ticket e.book e.takes e.ends
 
 pub loop-ticket-smaller : goal.loop-ticket-smaller
 loop-ticket-smaller c =
     let law : CoreLaw = record { event = c.law_core.ensures.event; shown = c.law_core.ensures.shown; found = c.law_core.ensures.found; room = c.law_core.ensures.room } in
     let e = c.in-Some.ensures in
-    less law c.loop-ticket.self c.take.new.self c.in-Some.ticket c.loop-ticket.invariant.running e.setup e.book e.takes c.settle.new.self c.take.new.view.pairs c.outcome_of-outcome.result c.settle.result
-    c.settle.ensures.setup c.holds-in-Some.ensures.running e.present c.settle.ensures.settles
+    let s = c.settle_at_once.ensures.settles in
+    less law c.loop-ticket.self c.take_first.new.self c.in-Some.ticket c.loop-ticket.invariant.running e.setup e.book e.takes c.settle_at_once.new.self s.view s.found c.settle_at_once.result
+    c.settle_at_once.ensures.setup c.holds-in-Some.ensures.running s.present s.settles
 
 pub loop-ticket-preserved : goal.loop-ticket-preserved
 loop-ticket-preserved c =
@@ -45,32 +40,29 @@ loop-ticket-preserved c =
     let e = c.in-Some.ensures in
     let v = c.loop-ticket.invariant in
     let old = c.loop-ticket.self in
-    let mid = c.take.new.self in
-    let new = c.settle.new.self in
-    let view = c.take.new.view.pairs in
-    let found = c.outcome_of-outcome.result in
-    let answer = c.settle.result in
+    let mid = c.take_first.new.self in
+    let new = c.settle_at_once.new.self in
+    let s = c.settle_at_once.ensures.settles in
+    let answer = c.settle_at_once.result in
     let t = c.in-Some.ticket in
-    let s = c.settle.ensures.settles in
-    let more = goes_on law old mid t v.running e.setup e.book e.takes new view found answer s in
+    let more = goes_on law old mid t v.running e.setup e.book e.takes new s.view s.found answer s.settles in
     record {
-      setup = c.settle.ensures.setup ∙ e.setup ∙ v.setup;
-      room = e.room ∙ v.room;
-      woken_room = c.settle.ensures.woken_room ∙ v.woken_room;
+      setup = c.settle_at_once.ensures.setup ∙ e.setup ∙ v.setup;
+      woken_room = c.settle_at_once.ensures.woken_room ∙ v.woken_room;
       running = c.holds-in-Some.ensures.running;
-      landed = landed law old mid t v.running e.setup e.book e.takes new view found answer v.landed s;
+      landed = landed law old mid t v.running e.setup e.book e.takes new s.view s.found answer v.landed s.settles;
       run = subst (λ (S : Preparation). (events : List Event) × Run S.task (state_in c.args.self.now) events (state_in new)) v.setup
-          (two_more law old mid t v.running e.setup e.book e.takes new view found answer s (state_in c.args.self.now)
+          (two_more law old mid t v.running e.setup e.book e.takes new s.view s.found answer s.settles (state_in c.args.self.now)
           (subst (λ (S : Preparation). (events : List Event) × Run S.task (state_in c.args.self.now) events (state_in old)) (sym v.setup) v.run));
       grows = (v.grows.0 ++ more.0, more.1 ∙ ap (λ xs. xs ++ more.0) v.grows.1 ∙ append_assoc c.args.self.now.book.journal v.grows.0 more.0);
     }
 
 pub returns-clause-finished : goal.returns-clause-finished
-returns-clause-finished c = finished c.loop-ticket.self c.take.new.self c.holds-2.ensures.running c.loop-ticket.invariant.landed c.in_default.ensures.takes
+returns-clause-finished c = finished c.loop-ticket.self c.take_first.new.self c.holds-2.ensures.running c.loop-ticket.invariant.landed c.in_default.ensures.takes
 
 pub returns-clause-run : goal.returns-clause-run
 returns-clause-run c =
     let v = c.loop-ticket.invariant in
-    subst (λ (S : Preparation). (events : List Event) × Run S.task (state_in c.args.self.now) events (state_in c.take.new.self)) v.setup
-    (one_more c.loop-ticket.self c.take.new.self c.holds-2.ensures.running v.landed c.in_default.ensures.takes (state_in c.args.self.now)
+    subst (λ (S : Preparation). (events : List Event) × Run S.task (state_in c.args.self.now) events (state_in c.take_first.new.self)) v.setup
+    (one_more c.loop-ticket.self c.take_first.new.self c.holds-2.ensures.running v.landed c.in_default.ensures.takes (state_in c.args.self.now)
     (subst (λ (S : Preparation). (events : List Event) × Run S.task (state_in c.args.self.now) events (state_in c.loop-ticket.self)) (sym v.setup) v.run))

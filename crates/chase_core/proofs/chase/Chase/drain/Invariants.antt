@@ -8,7 +8,6 @@ use Rattle.chase_core.proofs.chase.Chase.drain.Given as goal
 abbrev pub invariant-loop-ticket : goal.invariant-loop-ticket
 invariant-loop-ticket l = record {
   setup : l.self.setup ≡ l.fn.self.setup;
-  room : l.view.room ≡ l.fn.view.room;
   woken_room : l.woken.room ≡ l.fn.woken.room;
   running : IsRunning l.self;
   landed : HaveLanded l.self;
