@@ -99,7 +99,7 @@ fn drains(rt: &impl Abort, alloc: Global, setup: &Setup, steps: &Play) -> Result
         steps.steps,
     );
     chase.recall();
-    chase.drain(&mut left.view, &mut woken);
+    chase.drain(&mut woken);
     assert!(rt; is_matched(&chase.finish(), steps));
     Ok(())
 }

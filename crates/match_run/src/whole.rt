@@ -11,7 +11,6 @@ use chase_core::{Chase, Setup, Woken};
 use chase_laws::Pattern;
 use gk_base::NoMemory;
 use pair_seed::SeedStop;
-use paired_search::View;
 use std::alloc::Global;
 use std::thread::Threads;
 use typed_graph::Graph;
@@ -20,10 +19,9 @@ use typed_graph::Graph;
 fn labels_of(alloc: Global, setup: &Setup) -> Result<Vec<u32>, NoMemory>
     ensures { IfOk result (λ labels. AreClasses setup.now.task.graph setup.now.task.patterns labels.items) }
 {
-    let mut view = View::new(alloc, setup.widest())?;
     let mut woken = Woken::new(alloc, 0)?;
     let chase = Chase::new(alloc, setup)?;
-    Ok(chase_alone(chase, &mut view, &mut woken).labels)
+    Ok(chase_alone(chase, &mut woken).labels)
 }
 
 /// One label for each name, equal exactly where the chase makes two names the same.
