@@ -9,7 +9,7 @@ use Rattle.chase_laws.specs.declared.pattern.Edge.{Edge}
 use Rattle.chase_laws.specs.Shape.{Shape}
 use Rattle.chase_laws.specs.Graph.{NumberedGraph, HasRow}
 use Rattle.chase_laws.specs.Pairing.{GoTogether, PairedHere, ArePaired}
-use Rattle.pair_filter.specs.Along.{ArePairedAlong, HavePaired, HasPartner, HasAlone, IsValueEdge}
+use Rattle.pair_filter.specs.Along.{ArePairedAlong, HavePaired, HasAlone, IsValueEdge}
 
 module _ (G : NumberedGraph) (Q : Shape) where
   -- each number goes together with itself

@@ -1,5 +1,4 @@
-use Rattle.std.proofs.Common.{ℕ, ◌-◌, suc, ◌≡◌, ◌∙◌, arith, true≢false, sym, refl}
-use Rattle.std.proofs.lemmas.Option.{slice_get_within}
+use Rattle.std.proofs.Common.{◌-◌, ◌∙◌, arith, true≢false, sym, refl}
 use Rattle.chase_laws.specs.Graph.{HasRow}
 use Rattle.pair_filter.proofs.Steps.{paired_by_edges, not_along, has_alone_rows}
 use Rattle.pair_filter.proofs.alone.+alone.Goals as goal

@@ -1,4 +1,4 @@
-use Rattle.std.proofs.Common.{Some, slice_get, ◌≡◌, sym}
+use Rattle.std.proofs.Common.{Some, slice_get, ◌≡◌}
 use Rattle.chase_laws.specs.declared.pattern.Slot.TheVariants.{Entity}
 use Rattle.pair_filter.proofs.Steps.{here_of}
 use Rattle.pair_filter.proofs.keeping.is_kept_by.Goals as goal

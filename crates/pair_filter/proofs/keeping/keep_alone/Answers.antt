@@ -1,7 +1,6 @@
-use Rattle.std.proofs.Common.{ℕ, List, [], ◌∷◌, ◌++◌, get_or, take, ◌≡◌, ◌∙◌, sym, subst, true≢false, refl}
+use Rattle.std.proofs.Common.{ℕ, get_or, take, ◌∙◌, sym, true≢false}
 use Rattle.std.proofs.lemmas.List.{take_more}
 use Rattle.chase_laws.specs.Pairing.{ArePairedBy}
-use Rattle.pair_filter.specs.Selection.{IsSelection}
 use Rattle.pair_filter.proofs.Selections.{selection_push, selection_skip}
 use Rattle.pair_filter.proofs.keeping.keep_alone.Goals as goal
 

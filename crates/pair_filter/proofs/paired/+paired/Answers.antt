@@ -1,9 +1,8 @@
-use Rattle.std.proofs.Common.{ℕ, Some, Contains, slice_get, get_or, ◌-◌, ◌≡◌, ◌∙◌, suc, inl, inr, ap, arith, true≢false, sym, subst, refl, take_all}
+use Rattle.std.proofs.Common.{ℕ, Some, Contains, slice_get, ◌-◌, ◌≡◌, ◌∙◌, inl, inr, ap, arith, true≢false, sym, subst, refl, take_all}
 use Rattle.chase_laws.specs.declared.pattern.Slot.{Slot}
 use Rattle.chase_laws.specs.declared.pattern.Slot.TheVariants.{Value, Fixed}
 use Rattle.chase_laws.specs.Graph.{HasRow}
 use Rattle.chase_laws.specs.Pairing.{ArePaired}
-use Rattle.pair_filter.specs.Along.{ArePairedUnder}
 use Rattle.pair_filter.proofs.Steps.{left_alone, right_alone, paired_by_edges, not_along, have_paired_rows, same_value, same_constant, shares_value, contains_more}
 use Rattle.pair_filter.proofs.paired.+paired.Goals as goal
 
