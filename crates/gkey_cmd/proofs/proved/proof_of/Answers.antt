@@ -11,7 +11,7 @@ use Rattle.gkey_cmd.proofs.Derived.{is_proof}
 use Rattle.gkey_cmd.proofs.proved.proof_of.Goals as goal
 
 pub returns-in_err-prepared-clause-stop : goal.returns-in_err-prepared-clause-stop
-returns-in_err-prepared-clause-stop c =
+returns-in_err-prepared-clause-stop g c =
     let n = c.in_ok-numbered.numbered in
     let k = c.from_residual-in_err-prepared in
     let p = err_from_is_err_and k.result k.ensures.1 in
@@ -20,27 +20,27 @@ returns-in_err-prepared-clause-stop c =
     right_stop triples c.args.keys.now n.graph n.names n.patterns.items is.names is.graph is.patterns c.law_rows.ensures.candidate c.args.limit c.in_err-prepared.field-0.0 c.in_err-prepared.ensures.stop)
 
 pub journal_text-requires-clause-named : goal.journal_text-requires-clause-named
-journal_text-requires-clause-named c =
+journal_text-requires-clause-named g c =
     let n = c.in_ok-numbered.numbered in
     let t = c.requires.few in
     let is = c.in_ok-numbered.ensures.numbered t.0 t.1 in
     ap (λ (G : NumberedGraph). length G.literal) c.in_ok-prepared.ensures.graph ∙ has_names t.0 c.args.keys.now n.graph n.names n.patterns.items is.names is.graph is.patterns
 
 pub journal_text-requires-clause-one_each : goal.journal_text-requires-clause-one_each
-journal_text-requires-clause-one_each c =
+journal_text-requires-clause-one_each g c =
     let n = c.in_ok-numbered.numbered in
     let t = c.requires.few in
     let is = c.in_ok-numbered.ensures.numbered t.0 t.1 in
     ap length c.keys.ensures.keys ∙ sym (length-map c.args.keys.now (shape_of n.names)) ∙ sym (ap length is.patterns) ∙ sym (ap length c.in_ok-prepared.ensures.patterns)
 
 pub returns-in_err-text-clause-stop : goal.returns-in_err-text-clause-stop
-returns-in_err-text-clause-stop c =
+returns-in_err-text-clause-stop g c =
     let k = c.from_residual-in_err-text in
     let p = err_from_is_err_and k.result k.ensures.1 in
     rw (p.1, p.2) (λ triples s. tt)
 
 pub returns-clause-proof : goal.returns-clause-proof
-returns-clause-proof c =
+returns-clause-proof g c =
     let n = c.in_ok-numbered.numbered in
     let keys = c.args.keys.now in
     let text = c.in_ok-text.text.items in
@@ -54,7 +54,7 @@ returns-clause-proof c =
     c.law_rows.ensures.derivation c.law_rows.ensures.closed c.law_chase.ensures c.law_proof.ensures.accepted text told
 
 pub returns-clause-no_more : goal.returns-clause-no_more
-returns-clause-no_more c =
+returns-clause-no_more g c =
     let n = c.in_ok-numbered.numbered in
     λ triples s.
     let is = c.in_ok-numbered.ensures.numbered triples s in
