@@ -1,5 +1,5 @@
 -- A pair taken, searched and settled, over and over.
-use Rattle.std.proofs.Common.{List, [], ◌∷◌, ◌++◌, ℕ, Option, Some, None, Contains, IsTrue, Bool, slice_get, slice_set, get_or, length, ◌≡◌, ◌≢◌, ◌<◌, ◌≤◌, ◌+◌, ◌*◌, ◌-◌, ◌⊎◌, inl, inr, refl, sym, ◌∙◌, ap, subst, arith, append-nil, length-append, length-set, not, ◌==◌, eqb-true}
+use Rattle.std.proofs.Common.{List, [], ◌∷◌, ◌++◌, ℕ, Option, Some, None, Contains, slice_get, slice_set, get_or, length, ◌≡◌, ◌≢◌, ◌<◌, ◌≤◌, ◌+◌, ◌*◌, ◌-◌, ◌⊎◌, inl, inr, refl, sym, ◌∙◌, ap, subst, arith, append-nil, length-append, length-set, not, ◌==◌, eqb-true}
 use Rattle.std.proofs.lemmas.Bool.{cases_eq}
 use Rattle.std.proofs.lemmas.Bool.Decides.{Decides-eqb}
 use Rattle.std.proofs.lemmas.Option.{slice_get_within, slice_get-get_or, same_Some}
@@ -9,13 +9,8 @@ use Rattle.std.proofs.lemmas.Map.Views.{Contains-from_any}
 use Rattle.chase_laws.specs.declared.entry.Entry.{Entry}
 use Rattle.chase_laws.specs.declared.pair_state.PairState.{PairState}
 use Rattle.chase_laws.specs.declared.pair_state.PairState.TheVariants as state
-use Rattle.chase_laws.specs.Shape.{Shape}
-use Rattle.chase_laws.specs.Graph.{NumberedGraph}
-use Rattle.chase_laws.specs.Valuation.{IsMatch}
 use Rattle.chase_laws.specs.Joined.{Joined}
-use Rattle.chase_laws.specs.Chase.{IsStep}
-use Rattle.chase_laws.specs.View.{same_by}
-use Rattle.chase_laws.specs.Core.{Task, IsTask, State, IsSound, EndsApart, PairAt, ListsNear, IsPresent, Event, Happens, Run, IsFinished, Wakes, name_count, set_each}
+use Rattle.chase_laws.specs.Core.{Task, IsTask, State, IsSound, EndsApart, PairAt, IsPresent, Event, Happens, Run, IsFinished, Wakes, name_count, set_each}
 use Rattle.chase_laws.specs.Core.Event.{Take}
 use Rattle.list_pool.specs.Pool.{without}
 use Rattle.chase_core.specs.declared.ticket.Ticket.{Ticket}
@@ -37,12 +32,9 @@ use Rattle.chase_core.proofs.Aside.{length-set_each}
 use Rattle.chase_core.proofs.Passed.{set_each_from}
 use Rattle.chase_core.proofs.Events.{EventsKeep, settled_event}
 
--- what the law of the core says, as its clauses do
+-- what the law of the core says of events and of room, as its clauses do
 pub record CoreLaw : Type 0 where
   pub event : EventsKeep
-  pub shown : (T : Task) → IsTask T → (S : State) → IsSound T S → (a b : ℕ) (view : List (ℕ × ℕ)) → ListsNear T a b view → IsPresent S view → (m n : ℕ) → IsTrue (same_by view m n) → Joined S.journal m n
-  pub found : (G : NumberedGraph) (K : List Shape) (H : List Entry) (e : Entry) (Q : Shape) (same : ℕ → ℕ → Bool) → slice_get K e.key ≡ Some Q → IsMatch G Q same e.a e.b e.left e.right →
-      ((m n : ℕ) → IsTrue (same m n) → Joined H m n) → IsStep G K H e
   pub room : (T : Task) → IsTask T → (S : State) → IsSound T S → (p : ℕ) → EndsApart T S p → (length S.journal < length T.pairs) × (length S.journal + 1 < name_count T)
 
 -- no pair is handed out

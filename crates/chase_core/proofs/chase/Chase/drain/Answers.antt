@@ -28,7 +28,7 @@ settle_at_once-requires-clause-apart c =
 
 pub loop-ticket-smaller : goal.loop-ticket-smaller
 loop-ticket-smaller c =
-    let law : CoreLaw = record { event = c.law_core.ensures.event; shown = c.law_core.ensures.shown; found = c.law_core.ensures.found; room = c.law_core.ensures.room } in
+    let law : CoreLaw = record { event = c.law_core.ensures.event; room = c.law_core.ensures.room } in
     let e = c.in-Some.ensures in
     let s = c.settle_at_once.ensures.settles in
     less law c.loop-ticket.self c.take_first.new.self c.in-Some.ticket c.loop-ticket.invariant.running e.setup e.book e.takes c.settle_at_once.new.self s.view s.found c.settle_at_once.result
@@ -36,7 +36,7 @@ loop-ticket-smaller c =
 
 pub loop-ticket-preserved : goal.loop-ticket-preserved
 loop-ticket-preserved c =
-    let law : CoreLaw = record { event = c.law_core.ensures.event; shown = c.law_core.ensures.shown; found = c.law_core.ensures.found; room = c.law_core.ensures.room } in
+    let law : CoreLaw = record { event = c.law_core.ensures.event; room = c.law_core.ensures.room } in
     let e = c.in-Some.ensures in
     let v = c.loop-ticket.invariant in
     let old = c.loop-ticket.self in
