@@ -36,7 +36,7 @@ returns-in_err-read g c =
     (stops_at_keys g.S.Shelf a.shelf.now c.read_keys.new.shelf a.limits.now a.graph.now a.keys.now []) c.in_err-read.field-0.0 c.in_err-read.ensures.ends)
 
 pub match_files-requires-clause-few : goal.match_files-requires-clause-few
-match_files-requires-clause-few g c =
+match_files-requires-clause-few g c = λ lives outlives.
     let t = c.in_ok-rows.ensures.gives.1 in (t.0, t.1.stand, omega (arith, t.1.few, c.requires.triples))
 
 pub returns : goal.returns
