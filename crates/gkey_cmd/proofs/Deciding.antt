@@ -24,7 +24,7 @@ use Rattle.gkey_cmd.specs.HowFar.{IsReadWithin, FileLeft, KeysLeft, ProofLeft, C
 use Rattle.gkey_cmd.specs.Failing.{HasFailed}
 use Rattle.gkey_cmd.specs.Matched.{IsReport, HasTooManyPairs}
 use Rattle.gkey_cmd.specs.Checked.{verdict_answer, verdict_text}
-use Rattle.gkey_cmd.specs.Written.{ChaseHasMorePairs, HasMorePairs, IsAnswered, IsRefused}
+use Rattle.gkey_cmd.specs.Written.{ChaseHasMorePairs, IsAnswered, IsRefused}
 use Rattle.gkey_cmd.specs.ChaseEnds.{ChaseEnds, IsProofOfFiles}
 use Rattle.gkey_cmd.proofs.Spelled.{names_good, names_spelled}
 use Rattle.gkey_cmd.specs.Endings.{graph_ending, Stopped, StopsAt, EndsAt, ReadSoFar}

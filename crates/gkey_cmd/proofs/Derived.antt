@@ -1,8 +1,7 @@
 -- A finished journal makes a proof of all that is the same.
-use Rattle.std.proofs.Common.{List, [], ◌∷◌, ℕ, zero, suc, Bool, true, Some, All, Contains, IsTrue, ◌==◌, ◌||◌, ◌↔◌, ◌≢◌, map, length, slice_get, slice_index, take, ◌≡◌, ◌⊎◌, ◌∙◌, ◌<◌, inl, inr, refl, sym, ap, ap₂, subst, arith, eqb-true, true≢false}
+use Rattle.std.proofs.Common.{List, [], ◌∷◌, ℕ, zero, suc, Bool, true, Some, All, IsTrue, ◌==◌, ◌||◌, ◌↔◌, map, length, slice_get, slice_index, ◌≡◌, ◌∙◌, ◌<◌, inl, inr, refl, sym, ap, ap₂, subst, arith, eqb-true, true≢false}
 use Rattle.std.specs.List.{list_any}
 use Rattle.std.proofs.lemmas.Bool.{or_cases}
-use Rattle.std.proofs.lemmas.List.{length-map}
 use Rattle.std.proofs.lemmas.List.Elements.{All-nil, All-cons}
 use Rattle.std.proofs.lemmas.Option.{slice_get_within}
 use Rattle.gk_base.specs.declared.term.Term.{Term}
@@ -25,13 +24,11 @@ use Rattle.key_file.specs.Compile.{patterns_of}
 use Rattle.key_file.specs.Numbered.{names_for, graph_of}
 use Rattle.term_text.specs.ReadBack.{CanBeSpelled}
 use Rattle.graph_rows.specs.Numbered.{AreSameGraph}
-use Rattle.match_run.specs.Classes.{IsFinishedJournal}
 use Rattle.proof_graph.specs.Steps.{StepShape, term_at}
-use Rattle.proof_graph.specs.Tells.{IsSupported, AreSupported, TellsAll}
+use Rattle.proof_graph.specs.Tells.{AreSupported, TellsAll}
 use Rattle.proof_check.specs.Verdict.{verdict}
-use Rattle.proof_check.specs.StepEntries.{step_entry, step_entries}
+use Rattle.proof_check.specs.StepEntries.{step_entries}
 use Rattle.proof_check.specs.declared.verdict.Verdict.TheVariants.{Accepted}
-use Rattle.gkey_cmd.specs.Proved.{IsProofText}
 use Rattle.gkey_cmd.specs.ChaseEnds.{IsProofOfFiles}
 use Rattle.gkey_cmd.specs.Told.{step_link, TellsJournal}
 

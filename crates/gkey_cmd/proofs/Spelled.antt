@@ -1,14 +1,13 @@
 -- The names of an accepted graph and accepted keys can be spelled.
-use Rattle.std.proofs.Common.{List, [], ◌∷◌, ◌++◌, ℕ, Bool, true, false, Option, Some, None, IfSome, Result, Ok, Err, IfOk, All, map, length, if◌then◌else◌, ◌≡◌, refl, sym, ap, subst, inl, inr}
-use Rattle.std.specs.List.{AllZip, filter_map, flat_map}
-use Rattle.std.proofs.lemmas.Bool.{cases_Bool}
+use Rattle.std.proofs.Common.{List, [], ◌∷◌, ◌++◌, ℕ, Bool, true, false, Option, Some, None, IfSome, Result, Ok, Err, IfOk, All, map, if◌then◌else◌, ◌≡◌, sym, subst}
+use Rattle.std.specs.List.{AllZip, filter_map}
 use Rattle.std.proofs.lemmas.List.Elements.{All-nil, All-cons, All-append, All-head, All-tail}
 use Rattle.gk_base.specs.declared.limits.Limits.{Limits}
 use Rattle.gk_base.specs.declared.lex_fault.LexFault.{LexFault}
 use Rattle.gk_base.specs.declared.term.Term.{Term}
 use Rattle.gk_base.specs.declared.term.Triple.{Triple}
 use Rattle.term_list.specs.Triples.{triple_terms, terms_of}
-use Rattle.term_table.specs.Numbering.{is_named, with_term, with_terms, names_of}
+use Rattle.term_table.specs.Numbering.{is_named, with_term, with_terms}
 use Rattle.term_text.specs.ReadBack.{CanBeSpelled}
 use Rattle.nt_lex.specs.Reading.{Says}
 use Rattle.nt_reader.specs.Line.{TermSays, term, other, FromObject, no_object, no_end, whole, FromPredicate, no_predicate, predicate_reads, FromSubject, no_subject, subject_reads, LineSays, no_text, nothing, triple, faulty}

@@ -1,6 +1,6 @@
 //! The order in which the files of a command are read, up to the first that fails or is refused, and what comes after the last.
 
-ghost use Rattle.std.specs.Prelude.{◌≡◌, ◌<◌, ◌^◌, Ok, length, take, IfOk, IfErr, OnOk, IfSome, MatchResult};
+ghost use Rattle.std.specs.Prelude.{◌≡◌, ◌<◌, ◌^◌, Ok, length, IfOk, IfErr, OnOk, IfSome, MatchResult};
 ghost use Rattle.gk_io.specs.Files.{bytes_of};
 ghost use Rattle.gkey_cmd.specs.Commands.{Matching, Proving, Checking, Converting};
 ghost use Rattle.gkey_cmd.specs.Reading.{KeyFileSays, ProofFileSays};
