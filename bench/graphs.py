@@ -1,5 +1,6 @@
 """Makes graphs and key files for the measurements: each from a size and a seed alone."""
 
+import itertools
 import random
 
 TYPE = "<http://www.w3.org/1999/02/22-rdf-syntax-ns#type>"
@@ -204,3 +205,71 @@ def chain(out, pairs, seed=1):
             out.write('<urn:a:0> <urn:code> "c" .\n<urn:b:0> <urn:code> "c" .\n')
         else:
             out.write(f"<urn:a:{i}> <urn:next> <urn:a:{i - 1}> .\n<urn:b:{i}> <urn:next> <urn:b:{i - 1}> .\n")
+
+
+HUB_KEYS = """key base <urn:T>
+value $n
+value $c
+?x <urn:name> $n
+?x <urn:code> $c
+end
+key link <urn:T>
+entity ?y <urn:T>
+value $n
+?x <urn:name> $n
+?x <urn:next> ?y
+end
+"""
+
+
+class Crowding:
+    """What is written to it goes on, but that one album in eight gets one of a few titles. A title's share of these goes
+    down with its number."""
+
+    def __init__(self, out, titles, seed):
+        self.out, self.titles, self.rng = out, titles, random.Random(seed)
+
+    def write(self, line):
+        if f"<{SITE}title>" in line and not self.rng.randrange(8):
+            line = line.split(' "')[0] + f' "Album {int((self.titles + 1) ** self.rng.random()) - 1}" .\n'
+        self.out.write(line)
+
+
+def crowded(out, triples, seed=1):
+    """The catalogue with crowded titles: some five million candidate pairs for a million triples."""
+    catalogue(Crowding(out, max(1, triples // 132 * 16 // 3), seed), triples, seed)
+
+
+def entity(out, name, text, code=None, following=None):
+    out.write(f'<urn:{name}> {TYPE} <urn:T> .\n<urn:{name}> <urn:name> "{text}" .\n')
+    if code is not None:
+        out.write(f'<urn:{name}> <urn:code> "{code}" .\n')
+    if following is not None:
+        out.write(f"<urn:{name}> <urn:next> <urn:{following}> .\n")
+
+
+def members(pairs):
+    """The least number of entities that have so many pairs."""
+    return next(n for n in itertools.count(2) if n * (n - 1) // 2 >= pairs)
+
+
+def missed(out, pairs, seed=1):
+    """Entities of one name, each of which leads to another one, so that none is another."""
+    for i in range(members(pairs)):
+        entity(out, f"a:{i}", "one", following=f"b:{i}")
+        entity(out, f"b:{i}", f"n{i}")
+
+
+def matched(out, pairs, seed=1):
+    """Entities of one name and one code: one class."""
+    for i in range(members(pairs)):
+        entity(out, f"a:{i}", "one", code="c")
+
+
+def woken(out, pairs, seed=1):
+    """Entities of one name, of which each leads to one of a chain that is identified pair by pair; each of these steps wakes
+    the pair that leads to it."""
+    count = members(pairs)
+    for i in range(count):
+        entity(out, f"a:{i}", "one", following=f"b:{i}")
+        entity(out, f"b:{i}", f"n{i // 2}", code="c" if i < 2 else None, following=f"b:{i - 2}" if i >= 2 else None)
