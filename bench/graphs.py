@@ -207,21 +207,6 @@ def chain(out, pairs, seed=1):
             out.write(f"<urn:a:{i}> <urn:next> <urn:a:{i - 1}> .\n<urn:b:{i}> <urn:next> <urn:b:{i - 1}> .\n")
 
 
-HUB_KEYS = """key base <urn:T>
-value $n
-value $c
-?x <urn:name> $n
-?x <urn:code> $c
-end
-key link <urn:T>
-entity ?y <urn:T>
-value $n
-?x <urn:name> $n
-?x <urn:next> ?y
-end
-"""
-
-
 class Crowding:
     """What is written to it goes on, but that one album in eight gets one of a few titles. A title's share of these goes
     down with its number."""

@@ -18,9 +18,9 @@ from timing import PROGRAM, best_in_turn, built
 KINDS = {
     "crowded": (graphs.crowded, graphs.CATALOGUE_KEYS),
     "bibliography": (graphs.bibliography, graphs.BIBLIOGRAPHY_KEYS),
-    "missed": (graphs.missed, graphs.HUB_KEYS),
-    "matched": (graphs.matched, graphs.HUB_KEYS),
-    "woken": (graphs.woken, graphs.HUB_KEYS),
+    "missed": (graphs.missed, graphs.CHAIN_KEYS),
+    "matched": (graphs.matched, graphs.CHAIN_KEYS),
+    "woken": (graphs.woken, graphs.CHAIN_KEYS),
     "chain": (graphs.chain, graphs.CHAIN_KEYS),
 }
 PLAN = [("crowded", 10 ** 5), ("crowded", 4 * 10 ** 5), ("crowded", 10 ** 6), ("bibliography", 3 * 10 ** 5),

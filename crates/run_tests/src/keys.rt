@@ -21,6 +21,7 @@ const BY_P: &[u8] = b"key k <urn:T>\nvalue $v\n?x <urn:p> $v\nend\n";
 
 const TWO_OF_T: &str = "<urn:a> % <urn:T> .\n<urn:b> % <urn:T> .\n";
 
+/// Four albums by two artists: two pairs of albums of one name, of which one pair has one year, and two artists of one name.
 pub const ALBUMS_AND_ARTISTS: &str = "\
 <urn:al1> % <urn:Album> .\n<urn:al2> % <urn:Album> .\n<urn:al1> <urn:name> \"Anthology 2\" .\n<urn:al2> <urn:name> \"Anthology 2\" .
 <urn:al1> <urn:year> \"1996\" .\n<urn:al2> <urn:year> \"1996\" .

@@ -5,12 +5,15 @@
 //! - `graphs`: graphs in all forms of N-Triples, and graphs that are refused
 //! - `keys`: small graphs with keys, and the classes that follow by hand
 //! - `proofs`: proofs that are made, checked and converted
+//! - `proof_files`: proof files that are refused or can't be read
 #![tactic(auto)]
 
 #[cfg(test)]
 mod graphs;
 #[cfg(test)]
 mod keys;
+#[cfg(test)]
+mod proof_files;
 #[cfg(test)]
 mod proofs;
 #[cfg(test)]

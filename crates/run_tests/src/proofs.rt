@@ -2,13 +2,12 @@
 
 use crate::keys::{ALBUMS_AND_ARTISTS, with_types};
 use crate::runs::{Case, GOOD, holds};
-use fixtures::texts::{ALBUM_AND_ARTIST_KEYS, ALBUM_KEY, ALBUMS};
-use gk_base::Limits;
+use fixtures::texts::{ALBUM_AND_ARTIST_KEYS, ALBUM_KEY};
 use std::sync::Wait;
 use std::test::Fail;
 use std::thread::Threads;
 
-/// The proof that two albums with one name and one year are the same, in both versions.
+/// The proof that two albums with one name and one year are the same, in version 1.
 const ALBUM_PROOF_1: &str = "\
 gkey-proof 1
 step album_year
@@ -18,7 +17,8 @@ done
 end 1
 ";
 
-const ALBUM_PROOF: &str = "\
+/// The same in version 2.
+pub const ALBUM_PROOF: &str = "\
 gkey-proof 2
 terms 4
 <urn:al1>
@@ -125,9 +125,11 @@ const STREET_PROOF: &str =
 
 const PROVE: &[&str] = &["prove", "g", "k"];
 
-const CHECK: &[&str] = &["check", "g", "k", "p"];
+/// Check the proof `p` of the graph `g` and the keys `k`.
+pub const CHECK: &[&str] = &["check", "g", "k", "p"];
 
-const CONVERT: &[&str] = &["convert", "p"];
+/// Convert the proof `p`.
+pub const CONVERT: &[&str] = &["convert", "p"];
 
 static ROWS: [Row; 14] = [
     Row {
@@ -443,126 +445,5 @@ fn the_first_step_that_fails_is_named_with_its_reason(rt: HostRuntime) -> Result
     for (row, expected) in CHANGED.iter().enumerate() {
         assert!(rt; change_holds(&rt, expected)?, "row {row}");
     }
-    Ok(())
-}
-
-/// A check of the albums.
-fn checked() -> Case<'static> {
-    Case {
-        words: CHECK,
-        graph: ALBUMS,
-        proof: ALBUM_PROOF.as_bytes(),
-        out: b"accepted 1\n",
-        ..GOOD
-    }
-}
-
-#[test]
-fn a_proof_file_comes_last(rt: HostRuntime) -> Result<(), Fail> {
-    let refused = [
-        (
-            b"<a>".as_slice(),
-            b"x".as_slice(),
-            "graph:1: relative IRI\n",
-        ),
-        (ALBUMS, b"x", "keys:1: unknown statement\n"),
-        (ALBUMS, ALBUM_KEY, "proof:2: bad line\n"),
-    ];
-    for (row, (graph, keys, err)) in refused.into_iter().enumerate() {
-        let case = Case {
-            graph,
-            keys,
-            proof: b"gkey-proof 1\nx",
-            status: 2,
-            out: b"",
-            err,
-            ..checked()
-        };
-        assert!(rt; holds(&rt, &case)?, "row {row}");
-    }
-    let early = Case {
-        words: CONVERT,
-        proof: b"gkey-proof 1\n",
-        status: 2,
-        out: b"",
-        err: "proof:1: proof ends early\n",
-        ..checked()
-    };
-    assert!(rt; holds(&rt, &early)?);
-    let long = Case {
-        words: CONVERT,
-        limits: Limits {
-            bytes: 10,
-            ..Limits::STANDARD
-        },
-        status: 2,
-        out: b"",
-        err: "proof:1: file too long\n",
-        ..checked()
-    };
-    assert!(rt; holds(&rt, &long)?);
-    Ok(())
-}
-
-#[test]
-fn a_proof_file_that_can_not_be_read_is_named(rt: HostRuntime) -> Result<(), Fail> {
-    let unread = Case {
-        status: 3,
-        out: b"",
-        err: "proof: read failed\n",
-        ..checked()
-    };
-    for call in 7u64..10 {
-        assert!(rt;
-            holds(
-                &rt,
-                &Case {
-                    reads: &[call],
-                    ..unread
-                }
-            )?,
-            "call {call}"
-        );
-    }
-    assert!(rt;
-        holds(
-            &rt,
-            &Case {
-                words: &["check", "g", "k", "none"],
-                ..unread
-            }
-        )?
-    );
-    for call in 1u64..4 {
-        assert!(rt;
-            holds(
-                &rt,
-                &Case {
-                    words: CONVERT,
-                    reads: &[call],
-                    ..unread
-                }
-            )?,
-            "call {call}"
-        );
-    }
-    assert!(rt;
-        holds(
-            &rt,
-            &Case {
-                words: &["convert", "none"],
-                ..unread
-            }
-        )?
-    );
-    assert!(rt;
-        holds(
-            &rt,
-            &Case {
-                reads: &[10],
-                ..checked()
-            }
-        )?
-    );
     Ok(())
 }
