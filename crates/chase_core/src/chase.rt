@@ -91,6 +91,13 @@ impl<'a> Chase<'a> {
         self.table.state(pair)
     }
 
+    /// How many pairs are Ready.
+    pub fn ready_count(&self) -> usize
+        ensures { result ≡ length self.now.table.ready }
+    {
+        self.table.ready_count()
+    }
+
     /// Which names are the same so far, and the identifications in order.
     pub fn book(&self) -> &Book
         ensures book { result.now ≡ self.now.book }

@@ -112,6 +112,13 @@ impl PairTable {
         self.states[pair as usize]
     }
 
+    /// How many pairs are Ready, which is how many cells of the pool stand in its list.
+    pub fn ready_count(&self) -> usize
+        ensures { result ≡ length self.now.ready }
+    {
+        self.states.len() - self.waiting.spare() as usize
+    }
+
     /// The first of the Ready pairs, and none exactly where no pair is Ready.
     pub fn first(&self) -> Option<u32>
         ensures first { result ≡ slice_get self.now.ready 0 }
