@@ -1,0 +1,5 @@
+mod HintMoves
+mod Jobs
+mod Passes
+mod Reaching
+mod Wakings

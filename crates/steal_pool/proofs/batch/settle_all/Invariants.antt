@@ -1,0 +1,15 @@
+use Rattle.std.proofs.Common.{◌≡◌, ◌++◌, ◌<◌, All, List, length}
+use Rattle.chase_laws.specs.declared.entry.Entry.{Entry}
+use Rattle.steal_pool.specs.Workspaces.{HasRoom}
+use Rattle.steal_pool.specs.Batches.{IsJob}
+use Rattle.steal_pool.proofs.batch.settle_all.Given as goal
+
+abbrev pub invariant-loop-k : goal.invariant-loop-k
+invariant-loop-k l = record {
+  count : length l.jobs ≡ length l.fn.jobs;
+  setup : l.shared.chase.setup ≡ l.fn.shared.chase.setup;
+  grows : (more : List Entry) × (l.shared.chase.book.journal ≡ l.fn.shared.chase.book.journal ++ more);
+  pending : All (λ p. p < l.count) l.pending.items;
+  jobs : All (IsJob l.shared.chase.setup.task l.shared.chase.book.journal) l.jobs;
+  rooms : All (HasRoom l.fn.shared.chase.setup.widest) l.jobs;
+}

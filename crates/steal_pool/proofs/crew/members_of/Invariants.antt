@@ -1,0 +1,18 @@
+use Rattle.std.proofs.Common.{◌≡◌, ◌≤◌, ◌+◌, All, vec_len, vec_capacity}
+use Rattle.chase_core.specs.Setup.{Preparation}
+use Rattle.steal_pool.specs.Workspaces.{IsWorkspace}
+use Rattle.steal_pool.specs.Members.{IsMember, AllOutWith, pair_count, widest_of}
+use Rattle.steal_pool.proofs.crew.members_of.Given as goal
+
+abbrev pub invariant-loop-pass : goal.invariant-loop-pass
+invariant-loop-pass l = record {
+  count : vec_len l.passes ≡ vec_len l.workspaces;
+  made : vec_len l.members + vec_len l.passes ≡ vec_len l.fn.passes;
+  room : vec_len l.fn.passes ≤ vec_capacity l.members;
+  home : vec_capacity l.passes ≡ vec_capacity l.fn.passes;
+  parts : (S : Preparation) × AllOutWith l.lock S l.passes.items × All (IsWorkspace (pair_count S) (widest_of S) l.thieves) l.workspaces.items;
+  members : All (IsMember pair_count widest_of l.lock l.thieves) l.members.items;
+}
+
+abbrev pub decreases-loop-pass : goal.decreases-loop-pass
+decreases-loop-pass l = vec_len l.passes

@@ -1,0 +1,5 @@
+use Rattle.steal_pool.specs.Batches.{IsAtWork}
+use Rattle.steal_pool.proofs.worker.look_again.Given as goal
+
+abbrev pub invariant-loop : goal.invariant-loop
+invariant-loop g l = IsAtWork l.lock l.thieves l.member

@@ -1,0 +1,52 @@
+-- What a worker has in hand between its turns, and what becomes of it.
+use Rattle.std.specs.Prelude.{List, ℕ, Option, Some, None, ◌≡◌}
+use Rattle.std.specs.List.{All}
+use Rattle.chase_laws.specs.declared.entry.Entry.{Entry}
+use Rattle.chase_laws.specs.Core.{Task}
+use Rattle.chase_core.specs.Setup.{Preparation}
+use Rattle.chase_core.specs.Running.{Running}
+use Rattle.chase_core.specs.Holding.{IsHeld}
+use Rattle.chase_core.specs.Settling.{IsFoundBy, Settles}
+use Rattle.chase_core.specs.declared.ticket.Outcome.{Outcome}
+use Rattle.chase_core.specs.declared.ticket.Settled.{Settled}
+use Rattle.turn_lock.specs.declared.handles.TurnLock.{TurnLock}
+use Rattle.turn_lock.specs.Handles.{base_of, seen}
+use Rattle.steal_pool.specs.declared.workspace.Job.{Job}
+use Rattle.steal_pool.specs.declared.workspace.Progress.{Progress}
+use Rattle.steal_pool.specs.declared.workspace.Progress.TheVariants as progress
+use Rattle.steal_pool.specs.declared.member.Member.{Member}
+use Rattle.steal_pool.specs.declared.shared.Shared.{Shared}
+use Rattle.steal_pool.specs.Workspaces.{Thief}
+use Rattle.steal_pool.specs.Members.{IsMember, pair_count, widest_of}
+
+-- the pair that a job has, if any
+abbrev pub pair_in : Progress → Option ℕ
+pair_in progress.Free = None
+pair_in (progress.Taken t) = Some t.pair
+pair_in (progress.Searched t found) = Some t.pair
+
+-- a pair that was taken is held with its view since these entries were seen, and what is said of a search is what one comes to
+abbrev pub IsCarried : Task → List Entry → List (ℕ × ℕ) → Progress → Type 0
+IsCarried T seen view progress.Free = Unit {0}
+IsCarried T seen view (progress.Taken t) = IsHeld T seen t view
+IsCarried T seen view (progress.Searched t found) = IsHeld T seen t view × IsFoundBy T t view found
+
+abbrev pub IsJob : Task → List Entry → Job → Type 0
+IsJob T seen job = IsCarried T seen job.view.pairs job.progress
+
+-- what was searched is settled, and nothing else changes
+abbrev pub SettlesBy : Running → List (ℕ × ℕ) → Progress → Running → Progress → Type 0
+SettlesBy old view progress.Free new after = (new ≡ old) × (after ≡ progress.Free)
+SettlesBy old view (progress.Taken t) new after = (new ≡ old) × (after ≡ progress.Taken t)
+SettlesBy old view (progress.Searched t found) new after = ((answer : Settled) × Settles old t view found answer new) × (after ≡ progress.Free)
+
+-- what was taken is searched, by its own view, and nothing else changes
+abbrev pub SearchesBy : Task → List (ℕ × ℕ) → Progress → Progress → Type 0
+SearchesBy T view progress.Free after = after ≡ progress.Free
+SearchesBy T view (progress.Taken t) after = (found : Outcome) × (after ≡ progress.Searched t found) × IsFoundBy T t view found
+SearchesBy T view (progress.Searched t found) after = after ≡ progress.Searched t found
+
+-- a worker that may go on, and whose jobs are good since its last turn
+pub record IsAtWork (lock : TurnLock Shared Preparation Entry) (thieves : List Thief) (m : Member Shared Preparation Entry) : Type 0 where
+  pub member : IsMember pair_count widest_of lock thieves m
+  pub jobs : (S : Preparation) → base_of m.pass ≡ Some S → All (IsJob S.task (seen m.pass)) m.workspace.jobs.items

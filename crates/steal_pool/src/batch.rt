@@ -1,0 +1,206 @@
+//! What a worker does with the chase in a turn: it settles the jobs that it has searched, and takes pairs for new ones.
+
+ghost use Rattle.std.specs.Prelude.{◌≡◌, ◌++◌, ◌<◌, ◌^◌, ◌↔◌, [], ℕ, List, All, IfSome, IsTrue, IsSome, MatchOption, length};
+ghost use Rattle.chase_laws.specs.declared.entry.Entry.{Entry};
+ghost use Rattle.chase_core.specs.Taking.{TakesFirst, TakesHint};
+ghost use Rattle.steal_pool.specs.declared.batch.Next.TheVariants.{End};
+ghost use Rattle.steal_pool.specs.Workspaces.{HasRoom, IsOwnDeque, IsWorkspace, ReachEach, Thief};
+ghost use Rattle.steal_pool.specs.Batches.{IsJob, SettlesBy, pair_in};
+
+use crate::hints::Thief;
+use crate::hunt::{keep_woken, next_hint};
+use crate::shared::Shared;
+use crate::workspace::{Job, Progress, Workspace};
+use chase_core::Woken;
+use chase_core::held_law::law_held;
+
+/// What a worker does after a turn.
+#[derive(Clone, Copy)]
+pub enum Next {
+    /// It searches for the pairs of its batch, if it has any, and goes on.
+    Search,
+    /// It looks for hints until it finds one or no other worker searches, and goes on.
+    LookAgain,
+    /// It ends: no pair was Ready when it took one last.
+    End,
+}
+
+/// Settles a job that was searched, and keeps what that wakes. A job that was not searched stays as it is.
+fn settle_job(
+    shared: &mut Shared<'_>,
+    job: &mut Job,
+    woken: &mut Woken,
+    pending: &mut Vec<u32>,
+    count: u32,
+)
+    requires job { IsJob shared.old.chase.setup.task shared.old.chase.book.journal job.old }
+    requires pending { All (λ p. p < count) pending.old.items }
+    requires count { length shared.old.chase.setup.task.pairs ≡ count }
+    ensures settles { SettlesBy shared.old.chase job.old.view.pairs job.old.progress shared.new.chase job.new.progress }
+    ensures setup { shared.new.chase.setup ≡ shared.old.chase.setup }
+    ensures grows { (more : List Entry) × (shared.new.chase.book.journal ≡ shared.old.chase.book.journal ++ more) }
+    ensures pending { All (λ p. p < count) pending.new.items }
+    ensures view { job.new.view ≡ job.old.view }
+    ensures job { IsJob shared.new.chase.setup.task shared.new.chase.book.journal job.new }
+{
+    match job.progress {
+        Progress::Searched(ticket, outcome) => {
+            shared.settle(ticket, &job.view, outcome, woken);
+            keep_woken(pending, woken.list(), count);
+            job.progress = Progress::Free;
+        }
+        Progress::Taken(_) => {}
+        Progress::Free => {}
+    }
+}
+
+/// Settles the first jobs, in order.
+fn settle_all(
+    shared: &mut Shared<'_>,
+    jobs: &mut [Job],
+    used: usize,
+    woken: &mut Woken,
+    pending: &mut Vec<u32>,
+    count: u32,
+)
+    requires jobs { All (IsJob shared.old.chase.setup.task shared.old.chase.book.journal) jobs.old }
+    requires rooms { All (HasRoom shared.old.chase.setup.widest) jobs.old }
+    requires pending { All (λ p. p < count) pending.old.items }
+    requires count { length shared.old.chase.setup.task.pairs ≡ count }
+    ensures setup { shared.new.chase.setup ≡ shared.old.chase.setup }
+    ensures grows { (more : List Entry) × (shared.new.chase.book.journal ≡ shared.old.chase.book.journal ++ more) }
+    ensures pending { All (λ p. p < count) pending.new.items }
+    ensures jobs { All (IsJob shared.new.chase.setup.task shared.new.chase.book.journal) jobs.new }
+    ensures rooms { All (HasRoom shared.old.chase.setup.widest) jobs.new }
+{
+    law_held();
+    for k in 0..used.min(jobs.len()) {
+        settle_job(shared, &mut jobs[k], woken, pending, count);
+    }
+}
+
+/// Takes a pair for a job, which has no pair where none was handed out. It answers whether it has one.
+fn take_job(shared: &mut Shared<'_>, job: &mut Job, hint: Option<u32>) -> bool
+    requires hint { IfSome hint (λ p. p < length shared.old.chase.setup.task.pairs) }
+    requires room { HasRoom shared.old.chase.setup.widest job.old }
+    ensures takes { MatchOption hint (TakesFirst shared.old.chase shared.new.chase (pair_in job.new.progress)) (λ p. TakesHint shared.old.chase shared.new.chase p (pair_in job.new.progress)) }
+    ensures taken { IsTrue result ↔ IsSome (pair_in job.new.progress) }
+    ensures setup { shared.new.chase.setup ≡ shared.old.chase.setup }
+    ensures book { shared.new.chase.book ≡ shared.old.chase.book }
+    ensures room { job.new.view.room ≡ job.old.view.room }
+    ensures job { IsJob shared.old.chase.setup.task shared.old.chase.book.journal job.new }
+{
+    match shared.chase.take(hint, &mut job.view) {
+        Some(ticket) => {
+            job.progress = Progress::Taken(ticket);
+            true
+        }
+        None => {
+            job.progress = Progress::Free;
+            false
+        }
+    }
+}
+
+/// The next hint, or none at all in a turn that had none before.
+fn hint_unless(dry: bool, workspace: &mut Workspace, thieves: &[Thief], n: u32) -> Option<u32>
+    requires count { workspace.old.count ≡ n }
+    requires own { IsOwnDeque n workspace.old.own }
+    requires passes { ReachEach n thieves.now workspace.old.steal_passes.items }
+    requires pending { All (λ p. p < n) workspace.old.pending.items }
+    ensures count { workspace.new.count ≡ n }
+    ensures own { IsOwnDeque n workspace.new.own }
+    ensures passes { ReachEach n thieves.now workspace.new.steal_passes.items }
+    ensures pending { All (λ p. p < n) workspace.new.pending.items }
+    ensures jobs { workspace.new.jobs ≡ workspace.old.jobs }
+    ensures hint { IfSome result (λ p. p < n) }
+{
+    if dry {
+        return None;
+    }
+    next_hint(workspace, thieves, n)
+}
+
+/// Takes pairs for the first jobs, at most so many. Without a hint it takes only where a pair is Ready or no other worker
+/// searches, since those that do may wake more.
+fn take_all(
+    shared: &mut Shared<'_>,
+    workspace: &mut Workspace,
+    thieves: &[Thief],
+    most: usize,
+    others: bool,
+) -> Next
+    requires jobs { All (IsJob shared.old.chase.setup.task shared.old.chase.book.journal) workspace.old.jobs.items }
+    requires workspace { IsWorkspace (length shared.old.chase.setup.task.pairs) shared.old.chase.setup.widest thieves.now workspace.old }
+    ensures ends { result ≡ End → shared.new.chase.table.ready ≡ [] }
+    ensures setup { shared.new.chase.setup ≡ shared.old.chase.setup }
+    ensures book { shared.new.chase.book ≡ shared.old.chase.book }
+    ensures jobs { All (IsJob shared.old.chase.setup.task shared.old.chase.book.journal) workspace.new.jobs.items }
+    ensures workspace { IsWorkspace (length shared.old.chase.setup.task.pairs) shared.old.chase.setup.widest thieves.now workspace.new }
+{
+    let count = workspace.count;
+    let mut taken = false;
+    let mut dry = false;
+    workspace.used = most.min(workspace.jobs.len());
+    for k in 0..workspace.jobs.len().min(most) {
+        let hint = hint_unless(dry, workspace, thieves, count);
+        dry = hint.is_none();
+        if dry && others && shared.chase.ready_count() == 0 {
+            workspace.searches = taken;
+            return if taken { Next::Search } else { Next::LookAgain };
+        }
+        if take_job(shared, &mut workspace.jobs[k], hint) {
+            taken = true;
+        } else if dry {
+            workspace.searches = taken;
+            return if taken { Next::Search } else { Next::End };
+        }
+    }
+    workspace.searches = taken;
+    Next::Search
+}
+
+/// Lets the next batch be twice as large where others wait for their turns, and a quarter of it where none does: a pair
+/// that waits in a batch is searched by what was known when it was taken.
+pub fn resize(workspace: &mut Workspace, wanted: bool)
+    ensures jobs { workspace.new.jobs ≡ workspace.old.jobs }
+    ensures workspace { (n widest : ℕ) → (thieves : List Thief) → IsWorkspace n widest thieves workspace.old → IsWorkspace n widest thieves workspace.new }
+{
+    workspace.size = if wanted {
+        workspace.size.saturating_mul(2).min(workspace.jobs.len())
+    } else {
+        (workspace.size / 4).max(1)
+    };
+}
+
+/// Settles what was searched, and takes the next batch: at most a share of what is Ready, so that others find pairs too,
+/// and at least one.
+pub fn settle_and_take(
+    shared: &mut Shared<'_>,
+    workspace: &mut Workspace,
+    thieves: &[Thief],
+    others: bool,
+) -> Next
+    requires jobs { All (IsJob shared.old.chase.setup.task shared.old.chase.book.journal) workspace.old.jobs.items }
+    requires workspace { IsWorkspace (length shared.old.chase.setup.task.pairs) shared.old.chase.setup.widest thieves.now workspace.old }
+    ensures ends { result ≡ End → shared.new.chase.table.ready ≡ [] }
+    ensures setup { shared.new.chase.setup ≡ shared.old.chase.setup }
+    ensures grows { (more : List Entry) × (shared.new.chase.book.journal ≡ shared.old.chase.book.journal ++ more) }
+    ensures short { length shared.new.chase.book.journal < 2 ^ 32 }
+    ensures jobs { All (IsJob shared.old.chase.setup.task shared.new.chase.book.journal) workspace.new.jobs.items }
+    ensures workspace { IsWorkspace (length shared.old.chase.setup.task.pairs) shared.old.chase.setup.widest thieves.now workspace.new }
+{
+    settle_all(
+        shared,
+        workspace.jobs.as_mut_slice(),
+        workspace.used,
+        &mut workspace.woken,
+        &mut workspace.pending,
+        workspace.count,
+    );
+    let share = workspace.share.max(1) as usize;
+    let most = (shared.chase.ready_count() / share).max(1);
+    let next = take_all(shared, workspace, thieves, most.min(workspace.size), others);
+    shared.holds();
+    next
+}

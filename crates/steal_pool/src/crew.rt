@@ -1,0 +1,134 @@
+//! A crew: workers that are ready to share a chase.
+
+ghost use Rattle.std.specs.Prelude.{◌≡◌, ◌<◌, ◌≤◌, ℕ, All, IfOk, IfErr, vec_len, vec_capacity};
+ghost use Rattle.chase_core.specs.Setup.{Preparation};
+ghost use Rattle.steal_pool.specs.Members.{IsMember, AllOutWith, pair_count, widest_of};
+ghost use Rattle.steal_pool.specs.Workspaces.{IsWorkspace};
+
+use crate::hints::Thief;
+use crate::member::Member;
+use crate::shared::Shared;
+use crate::workspace::Workspace;
+use crate::workspaces::workspaces;
+use chase_core::Chase;
+use gk_base::NoMemory;
+use std::alloc::Global;
+use std::marker::Model;
+use turn_lock::{Pass, TurnLock};
+
+/// Workers that are ready to share a chase: all that their run needs is at hand. Contracts see the setup and the journal
+/// of the chase, and how many workers there are. A crew ends only in `run_crew`.
+pub struct Crew<'a> {
+    pub(crate) lock: TurnLock<Shared<'a>>,
+    pub(crate) thieves: Vec<Thief>,
+    pub(crate) members: Vec<Member<Shared<'a>>>,
+    /// Room for the passes when they come back.
+    pub(crate) home: Vec<Pass<Shared<'a>>>,
+}
+
+impl<'a> Model for Crew<'a> {
+    ghost use Rattle.std.specs.Prelude.{length};
+    ghost use Rattle.turn_lock.specs.Handles.{opened};
+    ghost use Rattle.steal_pool.specs.Crews.{CrewContents, IsCrew};
+
+    ghost Value = { CrewContents };
+
+    ghost view = { λ c. record { setup = (opened c.lock).chase.setup; journal = (opened c.lock).chase.book.journal; workers = length c.members.items } };
+
+    ghost invariant = { λ c. IsCrew c.lock c.thieves.items c.members.items c.home };
+}
+
+/// Gives each pass a workspace.
+fn members_of<'a>(
+    lock: &TurnLock<Shared<'a>>,
+    thieves: &[Thief],
+    passes: &mut Vec<Pass<Shared<'a>>>,
+    workspaces: &mut Vec<Workspace>,
+    members: &mut Vec<Member<Shared<'a>>>,
+)
+    requires count { vec_len passes.old ≡ vec_len workspaces.old }
+    requires room { (vec_len members.old ≡ 0) × (vec_len passes.old ≤ vec_capacity members.old) }
+    requires parts { (S : Preparation) × AllOutWith lock.now S passes.old.items × All (IsWorkspace (pair_count S) (widest_of S) thieves.now) workspaces.old.items }
+    ensures count { vec_len members.new ≡ vec_len passes.old }
+    ensures home { (vec_len passes.new ≡ 0) × (vec_capacity passes.new ≡ vec_capacity passes.old) }
+    ensures members { All (IsMember pair_count widest_of lock.now thieves.now) members.new.items }
+{
+    while let Some(pass) = passes.pop() {
+        let workspace = workspaces.pop().unwrap();
+        members.push_reserved(Member { pass, workspace });
+    }
+}
+
+impl<'a> Crew<'a> {
+    /// A crew of so many workers, 1 to 64. The first pairs are dealt to them as hints. With `NoMemory` the chase comes
+    /// back as it was.
+    pub fn new(
+        alloc: Global,
+        chase: Chase<'a>,
+        workers: u32,
+    ) -> Result<Crew<'a>, (Chase<'a>, NoMemory)>
+        requires { (0 < workers) × (workers ≤ 64) }
+        ensures setup { IfOk result (λ c. c.setup ≡ chase.entry.setup) }
+        ensures journal { IfOk result (λ c. c.journal ≡ chase.entry.book.journal) }
+        ensures workers { IfOk result (λ c. c.workers ≡ workers) }
+        ensures err { IfErr result (λ e. e.0 ≡ chase.entry) }
+    {
+        let Ok((thieves, mut workspaces)) = workspaces(alloc, chase.setup(), workers) else {
+            return Err((chase, NoMemory));
+        };
+        let Ok(mut members) = Vec::with_capacity(alloc, workers as usize) else {
+            return Err((chase, NoMemory));
+        };
+        // For the proof alone: the journal is shorter than what a lock can count.
+        let _ = chase.book();
+        match TurnLock::new(alloc, Shared { chase }, workers) {
+            Ok((lock, mut passes)) => {
+                members_of(
+                    &lock,
+                    thieves.as_slice(),
+                    &mut passes,
+                    &mut workspaces,
+                    &mut members,
+                );
+                Ok(Crew {
+                    lock,
+                    thieves,
+                    members,
+                    home: passes,
+                })
+            }
+            Err((shared, NoMemory)) => {
+                let Shared { chase } = shared;
+                Err((chase, NoMemory))
+            }
+        }
+    }
+
+    /// How many workers there are.
+    pub fn workers(&self) -> u32
+        ensures workers { result ≡ self.now.workers }
+        ensures within { (0 < self.now.workers) × (self.now.workers ≤ 64) }
+    {
+        self.members.len() as u32
+    }
+}
+
+/// A crew of as many workers as there is memory for: so many, 1 to 64, or half as many, and so on down to one. With
+/// `NoMemory` there was not enough for one, and the chase is gone.
+pub fn muster<'a>(alloc: Global, chase: Chase<'a>, workers: u32) -> Result<Crew<'a>, NoMemory>
+    requires { (0 < workers) × (workers ≤ 64) }
+    ensures setup { IfOk result (λ c. c.setup ≡ chase.entry.setup) }
+    ensures journal { IfOk result (λ c. c.journal ≡ chase.entry.book.journal) }
+    ensures workers { IfOk result (λ c. (0 < c.workers) × (c.workers ≤ workers)) }
+{
+    let mut chase = chase;
+    let mut count = workers;
+    while count > 0 {
+        match Crew::new(alloc, chase, count) {
+            Ok(crew) => return Ok(crew),
+            Err((back, NoMemory)) => chase = back,
+        }
+        count /= 2;
+    }
+    Err(NoMemory)
+}

@@ -1,0 +1,44 @@
+//! Workers that share one chase: they search at once, each in a thread of its own, and all hold one state of what is the
+//! same. The chase stands behind a lock that lets them in one at a time. In a turn a worker settles what it has searched
+//! and takes its next pairs; it searches between turns, by views of the labels that it took with them. A worker has a
+//! deque of hints, which are pairs that may be found now; it takes the hint that was pushed last, steals one where it has
+//! none, and takes the first Ready pair where nobody has any. Contracts say that the chase comes out over the same setup
+//! with a journal that goes on from what it was. How much of it the workers did is not part of them.
+//!
+//! - `crew`: a crew, made and mustered
+//! - `run`: the run of a crew
+//! - `gate`: what a worker passes before a search
+//! - `shared`: the chase as a value with a journal
+//! - `threads`: workers in threads of their own, over any value
+//! - `worker`: what a worker does until it ends
+//! - `turns`: a turn of a worker
+//! - `batch`: what a worker does with the chase in a turn
+//! - `hunt`: where a worker looks for a hint
+//! - `member`: a worker with its pass of the lock
+//! - `workspace`: what a worker has besides
+//! - `workspaces`: the workspaces of all workers
+//! - `deques`: the workers' deques, and the passes for stealing from them
+//! - `hints`: a deque of hints
+//! - `hint_rule`: the rule of such a deque
+#![tactic(auto)]
+
+mod batch;
+mod crew;
+mod deques;
+mod gate;
+mod hint_rule;
+mod hints;
+mod hunt;
+mod member;
+mod run;
+mod shared;
+mod threads;
+mod turns;
+mod worker;
+mod workspace;
+mod workspaces;
+
+pub use crew::{Crew, muster};
+pub use gate::{Gate, OpenGate};
+pub use run::run_crew;
+pub use shared::Shared;

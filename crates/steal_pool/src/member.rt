@@ -1,0 +1,11 @@
+//! A worker with its pass of the lock.
+
+use crate::workspace::Workspace;
+use turn_lock::{Journaled, Pass};
+
+/// A worker.
+#[derive(Drop)]
+pub struct Member<T: Journaled> {
+    pub pass: Pass<T>,
+    pub workspace: Workspace,
+}

@@ -1,0 +1,57 @@
+//! Workers in threads of their own, over any value: the lifetime of the value stays behind the type parameter.
+
+ghost use Rattle.std.specs.Prelude.{◌≡◌, ℕ, All};
+ghost use Rattle.steal_pool.specs.Members.{IsMember};
+
+use crate::gate::Gate;
+use crate::hints::Thief;
+use crate::member::Member;
+use std::sync::Wait;
+use std::sync::atomic::AtomicU64;
+use std::thread;
+use std::thread::Threads;
+use turn_lock::{Journaled, TurnLock};
+
+/// What a worker does with a shared value until it ends.
+pub trait Work: Journaled {
+    /// How many pairs there are.
+    ghost pairs: { Self.Base → ℕ };
+
+    /// The room that a view has to have.
+    ghost widest: { Self.Base → ℕ };
+
+    /// The number counts the workers that search at the time.
+    fn work<G: Gate, R: Wait>(
+        rt: &R,
+        lock: &TurnLock<Self>,
+        thieves: &[Thief],
+        gate: &G,
+        in_search: &AtomicU64,
+        member: &mut Member<Self>,
+    )
+        requires { IsMember pairs widest lock.now thieves.now member.old }
+        ensures { IsMember pairs widest lock.now thieves.now member.new };
+}
+
+/// Each worker in a thread of its own. All have ended when it returns.
+pub fn work_all<T: Work + Send, G: Gate, R: Threads + Wait + Sync>(
+    rt: &R,
+    lock: &TurnLock<T>,
+    thieves: &[Thief],
+    gate: &G,
+    in_search: &AtomicU64,
+    members: &mut [Member<T>],
+)
+    requires { All (IsMember T.pairs T.widest lock.now thieves.now) members.old }
+    ensures { All (IsMember T.pairs T.widest lock.now thieves.now) members.new }
+{
+    thread::for_each_mut(
+        rt,
+        members,
+        64,
+        &|_, member|
+            requires { IsMember T.pairs T.widest lock.now thieves.now member.now }
+            ensures { IsMember T.pairs T.widest lock.entry.now thieves.entry.now member.exit.now }
+        { T::work(rt, lock, thieves, gate, in_search, member) },
+    );
+}

@@ -1,0 +1,94 @@
+//! A turn of a worker.
+
+ghost use Rattle.std.specs.Prelude.{◌≡◌, Some};
+ghost use Rattle.turn_lock.specs.Handles.{base_of};
+ghost use Rattle.steal_pool.specs.Batches.{IsAtWork};
+
+use crate::batch::{Next, resize, settle_and_take};
+use crate::hints::Thief;
+use crate::hunt::push_kept;
+use crate::member::Member;
+use crate::shared::Shared;
+use chase_core::Setup;
+use chase_core::held_law::law_held;
+use std::sync::Wait;
+use std::sync::atomic::{AtomicU64, Ordering};
+use turn_lock::TurnLock;
+
+/// Counts a worker that searches from now on, and did not before.
+fn count_in(in_search: &AtomicU64, before: bool, now: bool) {
+    if now && !before {
+        in_search.fetch_add(1, Ordering::SeqCst);
+    }
+}
+
+/// No longer counts a worker that searched before, and does not now.
+fn count_out(in_search: &AtomicU64, before: bool, now: bool) {
+    if before && !now {
+        in_search.fetch_sub(1, Ordering::SeqCst);
+    }
+}
+
+/// Pushes the pairs that a worker's last settles woke.
+fn push_woken<'a>(
+    lock: &TurnLock<Shared<'a>>,
+    thieves: &[Thief],
+    member: &mut Member<Shared<'a>>,
+)
+    requires { IsAtWork lock.now thieves.now member.old }
+    ensures at_work { IsAtWork lock.now thieves.now member.new }
+    ensures pass { member.new.pass ≡ member.old.pass }
+{
+    push_kept(
+        &mut member.workspace.own,
+        &mut member.workspace.pending,
+        member.workspace.count,
+    );
+}
+
+/// A turn in which the worker's jobs are settled, and the next pairs taken.
+fn settle_and_take_in_turn<'a, R: Wait>(
+    rt: &R,
+    lock: &TurnLock<Shared<'a>>,
+    thieves: &[Thief],
+    in_search: &AtomicU64,
+    member: &mut Member<Shared<'a>>,
+) -> (Next, &'a Setup)
+    requires { IsAtWork lock.now thieves.now member.old }
+    ensures at_work { IsAtWork lock.now thieves.now member.new }
+    ensures setup { base_of member.new.pass ≡ Some result.1.now }
+{
+    law_held();
+    let searched = member.workspace.searches;
+    let mut turn = lock.enter(rt, &mut member.pass);
+    let shared = turn.value();
+    let others = in_search.load(Ordering::SeqCst) > u64::from(searched);
+    let next = settle_and_take(shared, &mut member.workspace, thieves, others);
+    let setup = shared.chase.setup();
+    resize(&mut member.workspace, lock.is_wanted(&member.pass));
+    count_in(in_search, searched, member.workspace.searches);
+    lock.leave(turn, &mut member.pass);
+    (next, setup)
+}
+
+/// A turn in which the worker's jobs are settled, and the next pairs taken; what woke is pushed after the turn. Whoever
+/// has the jobs may search for them without the turn, in the setup that is answered with what the worker does next.
+///
+/// A worker counts as in search from the turn in which it takes a pair, until it is through with a turn that takes none.
+pub fn change_batch<'a, R: Wait>(
+    rt: &R,
+    lock: &TurnLock<Shared<'a>>,
+    thieves: &[Thief],
+    in_search: &AtomicU64,
+    member: &mut Member<Shared<'a>>,
+) -> (Next, &'a Setup)
+    requires { IsAtWork lock.now thieves.now member.old }
+    ensures at_work { IsAtWork lock.now thieves.now member.new }
+    ensures setup { base_of member.new.pass ≡ Some result.1.now }
+{
+    let searched = member.workspace.searches;
+    let (next, setup) = settle_and_take_in_turn(rt, lock, thieves, in_search, member);
+    push_woken(lock, thieves, member);
+    count_out(in_search, searched, member.workspace.searches);
+    (next, setup)
+}

@@ -1,0 +1,128 @@
+//! The workers' workspaces.
+
+ghost use Rattle.std.specs.Prelude.{◌≡◌, ◌<◌, ◌≤◌, ◌/◌, ℕ, [], All, IfOk, length, max, min};
+ghost use Rattle.steal_pool.specs.Workspaces.{HasRoom, IsOwnDeque, IsWorkspace, ReachAll, deque_ids};
+
+use crate::deques::{deal, deques, steal_passes_of, thieves_of};
+use crate::hints::{HintDeque, Thief};
+use crate::workspace::{Job, Progress, StealPass, Workspace};
+use chase_core::{Setup, Woken};
+use gk_base::NoMemory;
+use paired_search::View;
+use std::alloc::Global;
+
+// How many woken pairs one settle may note.
+const WOKEN: u32 = 256;
+
+// How many pairs a batch has at most. More gain little, and grow old while they wait in it.
+const BATCH: u32 = 64;
+
+// For how many names the views of one worker have room together, where one view does not take more: 512 kilobytes.
+const NAMES: u32 = 65536;
+
+// A batch takes at most this part of a worker's even share of the Ready pairs.
+const PART: u32 = 8;
+
+/// The passes for stealing, a list for each worker.
+fn all_steal_passes(
+    alloc: Global,
+    deques: &mut [HintDeque],
+    count: u32,
+) -> Result<Vec<Vec<StealPass>>, NoMemory>
+    requires few { length deques.old ≤ 64 }
+    requires deques { All (IsOwnDeque count) deques.old }
+    ensures each { IfOk result (λ lists. length lists.items ≡ length deques.old) }
+    ensures kept { length deques.new ≡ length deques.old }
+    ensures deques { All (IsOwnDeque count) deques.new }
+    ensures same { deque_ids deques.new ≡ deque_ids deques.old }
+    ensures reach { IfOk result (λ lists. All (λ ps. ReachAll count (deque_ids deques.old) ps.items) lists.items) }
+{
+    let mut lists = Vec::with_capacity(alloc, deques.len())?;
+    for _ in 0..deques.len() {
+        lists.push_reserved(steal_passes_of(alloc, deques, count)?);
+    }
+    Ok(lists)
+}
+
+/// How many jobs a worker has, where its views have room for so many names each.
+fn batch_size(widest: u32) -> u32
+    ensures { result ≡ max 1 (min 64 (65536 / max 1 widest)) }
+{
+    BATCH.min(NAMES / widest.max(1)).max(1)
+}
+
+/// So many jobs without a pair, with room for the widest view.
+fn free_jobs(alloc: Global, widest: u32, count: u32) -> Result<Vec<Job>, NoMemory>
+    ensures count { IfOk result (λ js. length js.items ≡ count) }
+    ensures rooms { IfOk result (λ js. All (HasRoom widest) js.items) }
+{
+    let mut jobs = Vec::with_capacity(alloc, count as usize)?;
+    for _ in 0..count {
+        let view = View::new(alloc, widest)?;
+        jobs.push_reserved(Job {
+            view,
+            progress: Progress::Free,
+        });
+    }
+    Ok(jobs)
+}
+
+/// One workspace. At first a batch has one pair.
+fn workspace_of(
+    alloc: Global,
+    setup: &Setup,
+    number: u32,
+    share: u32,
+    own: HintDeque,
+    steal_passes: Vec<StealPass>,
+) -> Result<Workspace, NoMemory>
+    ensures count { IfOk result (λ w. w.count ≡ length setup.now.task.pairs) }
+    ensures own { IfOk result (λ w. w.own ≡ own) }
+    ensures passes { IfOk result (λ w. w.steal_passes ≡ steal_passes) }
+    ensures pending { IfOk result (λ w. w.pending.items ≡ []) }
+    ensures rooms { IfOk result (λ w. All (HasRoom setup.now.widest) w.jobs.items) }
+{
+    let count = setup.pairs().len() as u32;
+    let widest = setup.widest();
+    let jobs = free_jobs(alloc, widest, batch_size(widest))?;
+    let woken = Woken::new(alloc, WOKEN)?;
+    let pending = Vec::with_capacity(alloc, WOKEN as usize)?;
+    Ok(Workspace {
+        number,
+        count,
+        own,
+        steal_passes,
+        pending,
+        woken,
+        share,
+        size: 1,
+        used: 0,
+        searches: false,
+        jobs,
+    })
+}
+
+/// The workspaces of so many workers, and a handle of each deque. The first pairs are dealt as hints.
+pub fn workspaces(
+    alloc: Global,
+    setup: &Setup,
+    workers: u32,
+) -> Result<(Vec<Thief>, Vec<Workspace>), NoMemory>
+    requires { (0 < workers) × (workers ≤ 64) }
+    ensures each { IfOk result (λ r. length r.1.items ≡ workers) }
+    ensures workspaces { IfOk result (λ r. All (IsWorkspace (length setup.now.task.pairs) setup.now.widest r.0.items) r.1.items) }
+{
+    let count = setup.pairs().len() as u32;
+    let mut owned = deques(alloc, workers, count)?;
+    deal(owned.as_mut_slice(), count);
+    let thieves = thieves_of(alloc, owned.as_slice())?;
+    let mut lists = all_steal_passes(alloc, owned.as_mut_slice(), count)?;
+    let mut workspaces = Vec::with_capacity(alloc, workers as usize)?;
+    while let Some(own) = owned.pop() {
+        let passes = lists.pop().unwrap();
+        let number = owned.len() as u32;
+        let workspace = workspace_of(alloc, setup, number, PART * workers, own, passes)?;
+        workspaces.push_reserved(workspace);
+    }
+    Ok((thieves, workspaces))
+}
