@@ -25,6 +25,12 @@ pair_in progress.Free = None
 pair_in (progress.Taken t) = Some t.pair
 pair_in (progress.Searched t found) = Some t.pair
 
+-- the pair was searched, and is not settled yet
+abbrev pub IsSearched : Progress → Type 0
+IsSearched progress.Free = ⊥
+IsSearched (progress.Taken t) = ⊥
+IsSearched (progress.Searched t found) = Unit {0}
+
 -- a pair that was taken is held with its view since these entries were seen, and what is said of a search is what one comes to
 abbrev pub IsCarried : Task → List Entry → List (ℕ × ℕ) → Progress → Type 0
 IsCarried T seen view progress.Free = Unit {0}

@@ -1,11 +1,12 @@
 //! What a worker does with the chase in a turn: it settles the jobs that it has searched, and takes pairs for new ones.
 
-ghost use Rattle.std.specs.Prelude.{◌≡◌, ◌++◌, ◌<◌, ◌^◌, ◌↔◌, [], ℕ, List, All, IfSome, IsTrue, IsSome, MatchOption, length};
+ghost use Rattle.std.specs.Prelude.{◌≡◌, ◌++◌, ◌<◌, ◌^◌, ◌↔◌, [], ℕ, List, All, IfSome, IsTrue, IsSome, None, Some, MatchOption, length, slice_index_or};
 ghost use Rattle.chase_laws.specs.declared.entry.Entry.{Entry};
 ghost use Rattle.chase_core.specs.Taking.{TakesFirst, TakesHint};
 ghost use Rattle.steal_pool.specs.declared.batch.Next.TheVariants.{End};
+ghost use Rattle.steal_pool.specs.declared.workspace.Job.{Job};
 ghost use Rattle.steal_pool.specs.Workspaces.{HasRoom, IsOwnDeque, IsWorkspace, ReachEach, Thief};
-ghost use Rattle.steal_pool.specs.Batches.{IsJob, SettlesBy, pair_in};
+ghost use Rattle.steal_pool.specs.Batches.{IsJob, IsSearched, SettlesBy, pair_in};
 
 use crate::hints::Thief;
 use crate::hunt::{keep_woken, next_hint};
@@ -37,6 +38,7 @@ fn settle_job(
     requires pending { All (λ p. p < count) pending.old.items }
     requires count { length shared.old.chase.setup.task.pairs ≡ count }
     ensures settles { SettlesBy shared.old.chase job.old.view.pairs job.old.progress shared.new.chase job.new.progress }
+    ensures settled { ¬ (IsSearched job.new.progress) }
     ensures setup { shared.new.chase.setup ≡ shared.old.chase.setup }
     ensures grows { (more : List Entry) × (shared.new.chase.book.journal ≡ shared.old.chase.book.journal ++ more) }
     ensures pending { All (λ p. p < count) pending.new.items }
@@ -67,6 +69,7 @@ fn settle_all(
     requires rooms { All (HasRoom shared.old.chase.setup.widest) jobs.old }
     requires pending { All (λ p. p < count) pending.old.items }
     requires count { length shared.old.chase.setup.task.pairs ≡ count }
+    ensures settled { (k : ℕ) (d : Job) → k < used → k < length jobs.old → ¬ (IsSearched (slice_index_or jobs.new k d).progress) }
     ensures setup { shared.new.chase.setup ≡ shared.old.chase.setup }
     ensures grows { (more : List Entry) × (shared.new.chase.book.journal ≡ shared.old.chase.book.journal ++ more) }
     ensures pending { All (λ p. p < count) pending.new.items }
@@ -79,12 +82,14 @@ fn settle_all(
     }
 }
 
-/// Takes a pair for a job, which has no pair where none was handed out. It answers whether it has one.
+/// Takes a pair for a job that has none. It answers whether it has one now.
 fn take_job(shared: &mut Shared<'_>, job: &mut Job, hint: Option<u32>) -> bool
+    requires free { pair_in job.old.progress ≡ None }
     requires hint { IfSome hint (λ p. p < length shared.old.chase.setup.task.pairs) }
     requires room { HasRoom shared.old.chase.setup.widest job.old }
     ensures takes { MatchOption hint (TakesFirst shared.old.chase shared.new.chase (pair_in job.new.progress)) (λ p. TakesHint shared.old.chase shared.new.chase p (pair_in job.new.progress)) }
     ensures taken { IsTrue result ↔ IsSome (pair_in job.new.progress) }
+    ensures none { hint ≡ None → ¬ (IsTrue result) → shared.new.chase.table.ready ≡ [] }
     ensures setup { shared.new.chase.setup ≡ shared.old.chase.setup }
     ensures book { shared.new.chase.book ≡ shared.old.chase.book }
     ensures room { job.new.view.room ≡ job.old.view.room }
@@ -99,6 +104,27 @@ fn take_job(shared: &mut Shared<'_>, job: &mut Job, hint: Option<u32>) -> bool
             job.progress = Progress::Free;
             false
         }
+    }
+}
+
+/// Takes a pair for a job that has none. One that has a pair keeps it, so that none is ever lost. It answers whether the
+/// job has one now.
+fn fill_job(shared: &mut Shared<'_>, job: &mut Job, hint: Option<u32>) -> bool
+    requires job { IsJob shared.old.chase.setup.task shared.old.chase.book.journal job.old }
+    requires hint { IfSome hint (λ p. p < length shared.old.chase.setup.task.pairs) }
+    requires room { HasRoom shared.old.chase.setup.widest job.old }
+    ensures kept { (p : ℕ) → pair_in job.old.progress ≡ Some p → job.new.progress ≡ job.old.progress }
+    ensures taken { IsTrue result ↔ IsSome (pair_in job.new.progress) }
+    ensures none { hint ≡ None → ¬ (IsTrue result) → shared.new.chase.table.ready ≡ [] }
+    ensures setup { shared.new.chase.setup ≡ shared.old.chase.setup }
+    ensures book { shared.new.chase.book ≡ shared.old.chase.book }
+    ensures room { job.new.view.room ≡ job.old.view.room }
+    ensures job { IsJob shared.old.chase.setup.task shared.old.chase.book.journal job.new }
+{
+    match job.progress {
+        Progress::Free => take_job(shared, job, hint),
+        Progress::Taken(_) => true,
+        Progress::Searched(_, _) => true,
     }
 }
 
@@ -149,7 +175,7 @@ fn take_all(
             workspace.searches = taken;
             return if taken { Next::Search } else { Next::LookAgain };
         }
-        if take_job(shared, &mut workspace.jobs[k], hint) {
+        if fill_job(shared, &mut workspace.jobs[k], hint) {
             taken = true;
         } else if dry {
             workspace.searches = taken;

@@ -8,6 +8,7 @@ loop-k-preserved c =
     let e = c.settle_job.ensures in
     record {
       count = search rules;
+      settled = search rules;
       setup = e.setup ∙ v.setup;
       grows = (v.grows.0 ++ e.grows.0, e.grows.1 ∙ ap (λ js. js ++ e.grows.0) v.grows.1 ∙ append_assoc c.args.shared.now.chase.book.journal v.grows.0 e.grows.0);
       pending = e.pending;

@@ -11,7 +11,7 @@ pub loop-k-preserved : goal.loop-k-preserved
 loop-k-preserved c =
     let v = c.loop-k.invariant in
     let h = c.hint_unless-hint.ensures in
-    let t = c.take_job.ensures in
+    let t = c.fill_job.ensures in
     let S = c.args.shared.now.chase.setup in
     let B = c.args.shared.now.chase.book in
     let jobs = c.hint_unless-hint.new.workspace.jobs.items in
@@ -21,15 +21,15 @@ loop-k-preserved c =
       count = search rules;
       setup = t.setup ∙ v.setup;
       book = t.book ∙ v.book;
-      jobs = All-set (IsJob S.task B.journal) jobs c.loop-k.k c.take_job.new.job
-          (subst (λ (Z : Preparation). IsJob Z.task B.journal c.take_job.new.job) v.setup (subst (λ (b : Classes). IsJob c.loop-k.shared.chase.setup.task b.journal c.take_job.new.job) v.book t.job))
+      jobs = All-set (IsJob S.task B.journal) jobs c.loop-k.k c.fill_job.new.job
+          (subst (λ (Z : Preparation). IsJob Z.task B.journal c.fill_job.new.job) v.setup (subst (λ (b : Classes). IsJob c.loop-k.shared.chase.setup.task b.journal c.fill_job.new.job) v.book t.job))
           (rw h.jobs v.jobs);
       workspace = record {
         count = h.count ∙ c.requires.workspace.count;
         own = subst (λ (n : ℕ). IsOwnDeque n c.hint_unless-hint.new.workspace.own) c.requires.workspace.count h.own;
         passes = subst (λ (n : ℕ). ReachEach n c.args.thieves.now c.hint_unless-hint.new.workspace.steal_passes.items) c.requires.workspace.count h.passes;
         pending = subst (λ (n : ℕ). All (λ p. p < n) c.hint_unless-hint.new.workspace.pending.items) c.requires.workspace.count h.pending;
-        rooms = All-set (HasRoom S.widest) jobs c.loop-k.k c.take_job.new.job
+        rooms = All-set (HasRoom S.widest) jobs c.loop-k.k c.fill_job.new.job
             (subst (λ (r : ℕ). S.widest ≤ r) (sym t.room)
             (subst (λ (j : Job). HasRoom S.widest j) (sym c.index_mut.ensures.value) (rooms c.loop-k.k c.index_mut.result.now within)))
             rooms;

@@ -1,0 +1,80 @@
+//! What passes a crew's gate, and what its chase comes to.
+
+ghost use Rattle.std.specs.Prelude.{◌<◌, ◌≤◌};
+
+use crate::gates::{empty_meeting, no_counts};
+use crate::graphs::{Kind, prepared};
+use chase_core::{Chase, Setup, Woken};
+use gk_base::NoMemory;
+use match_run::chase;
+use std::alloc::Global;
+use std::process::Abort;
+use std::sync::Wait;
+use std::sync::atomic::Ordering;
+use std::test::Fail;
+use std::thread::Threads;
+use steal_pool::{Crew, Gate, OpenGate};
+
+/// How many identifications a crew of so many workers comes to.
+fn run<G: Gate, R: Threads + Wait + Sync + Abort>(
+    rt: &R,
+    alloc: Global,
+    setup: &Setup,
+    workers: u32,
+    gate: &G,
+) -> Result<usize, Fail>
+    requires { (0 < workers) × (workers ≤ 64) }
+{
+    let mut woken = Woken::new(alloc, 0)?;
+    let made = Chase::new(alloc, setup)?;
+    match Crew::new(alloc, made, workers) {
+        Ok(crew) => Ok(chase(rt, crew, &mut woken, gate).journal.len()),
+        Err((_, NoMemory)) => panic!(rt; "no memory"),
+    }
+}
+
+#[test]
+fn each_pair_passes_once(rt: HostRuntime) -> Result<(), Fail> {
+    let alloc = rt.alloc();
+    let prepared = prepared(&rt, alloc, Kind::Alone, 100)?;
+    let gate = no_counts(alloc, 100)?;
+    assert_eq!(&rt; run(&rt, alloc, &prepared.setup, 4, &gate)?, 100);
+    for count in &gate.passed {
+        assert_eq!(&rt; count.load(Ordering::SeqCst), 1);
+    }
+    Ok(())
+}
+
+#[test]
+fn one_worker_begins_with_its_last_hint(rt: HostRuntime) -> Result<(), Fail> {
+    let alloc = rt.alloc();
+    let prepared = prepared(&rt, alloc, Kind::Alone, 100)?;
+    let gate = no_counts(alloc, 100)?;
+    assert_eq!(&rt; run(&rt, alloc, &prepared.setup, 1, &gate)?, 100);
+    assert_eq!(&rt; gate.first.load(Ordering::SeqCst), 99);
+    Ok(())
+}
+
+#[test]
+fn two_workers_are_at_the_gate_at_once(rt: HostRuntime) -> Result<(), Fail> {
+    let alloc = rt.alloc();
+    let prepared = prepared(&rt, alloc, Kind::Alone, 2)?;
+    let gate = empty_meeting();
+    assert_eq!(&rt; run(&rt, alloc, &prepared.setup, 2, &gate)?, 2);
+    assert_eq!(&rt; gate.met.load(Ordering::SeqCst), 1);
+    Ok(())
+}
+
+#[test]
+fn crews_of_all_sizes_come_to_the_same(rt: HostRuntime) -> Result<(), Fail> {
+    let alloc = rt.alloc();
+    for count in [0, 1, 3, 1000] {
+        for kind in [Kind::Alone, Kind::Chain] {
+            let prepared = prepared(&rt, alloc, kind, count)?;
+            for workers in [1, 2, 4, 64] {
+                assert_eq!(&rt; run(&rt, alloc, &prepared.setup, workers, &OpenGate)?, count as usize);
+            }
+        }
+    }
+    Ok(())
+}

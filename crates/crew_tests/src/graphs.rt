@@ -1,0 +1,79 @@
+//! Graphs of so many pairs of names of type 1. Both names of a pair have one literal under 2, which no other has.
+
+use chase_laws::Slot;
+use fixtures::{GraphTable, PatternTable, patterns_of};
+use match_run::{Prepared, prepare};
+use std::alloc::{AllocError, Global};
+use std::process::Abort;
+use std::test::Fail;
+use std::thread::Threads;
+
+/// How the pairs stand to one another.
+#[derive(Clone, Copy)]
+pub enum Kind {
+    /// Each has its literal under 4 too, by which its names are found to be the same.
+    Alone,
+    /// Only the last has, and each other leads to the next under 3 and needs that to be the same.
+    Chain,
+}
+
+// One literal under 4, or one under 2 and what is the same under 3.
+const KEYS: [PatternTable<'static>; 2] = [
+    PatternTable {
+        slots: &[Slot::Entity(1), Slot::Value],
+        edges: &[(0, 4, 1)],
+    },
+    PatternTable {
+        slots: &[Slot::Entity(1), Slot::Entity(1), Slot::Value],
+        edges: &[(0, 2, 2), (0, 3, 1)],
+    },
+];
+
+/// The rows of a pair, whose names are `first` and the next number, with its literal after them.
+fn push_pair(rows: &mut Vec<[u32; 3]>, first: u32, ends: bool) -> Result<(), AllocError> {
+    let literal = first.wrapping_add(2);
+    for name in [first, first.wrapping_add(1)] {
+        rows.push([name, 0, 1])?;
+        rows.push([name, 2, literal])?;
+        if ends {
+            rows.push([name, 4, literal])?;
+        } else {
+            rows.push([name, 3, name.wrapping_add(3)])?;
+        }
+    }
+    Ok(())
+}
+
+/// So many pairs, prepared for a chase.
+pub fn prepared<R: Threads + Sync + Abort>(
+    rt: &R,
+    alloc: Global,
+    kind: Kind,
+    count: u32,
+) -> Result<Prepared, Fail> {
+    let mut rows = Vec::new(alloc);
+    let mut literals = Vec::new(alloc);
+    let mut first = 5u32;
+    for i in 0..count {
+        let ends = match kind {
+            Kind::Alone => true,
+            Kind::Chain => i == count - 1,
+        };
+        push_pair(&mut rows, first, ends)?;
+        literals.push(first.wrapping_add(2))?;
+        first = first.wrapping_add(3);
+    }
+    let table = GraphTable {
+        names: first,
+        rows: &rows,
+        literals: &literals,
+        rdf_type: Some(0),
+        alike: &[],
+    };
+    let graph = table.build(alloc)?;
+    let keys = patterns_of(alloc, &KEYS)?;
+    match prepare(rt, alloc, graph, keys, 1_000_000) {
+        Ok(prepared) => Ok(prepared),
+        Err(_) => panic!(rt; "not prepared"),
+    }
+}

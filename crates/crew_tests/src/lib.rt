@@ -1,0 +1,14 @@
+//! Tests of crews: what passes their gates, and what their chases come to. They stand in a crate of their own, since a
+//! crate with tests is proved twice.
+//!
+//! - `graphs`: graphs in which each pair stands alone, or needs the one before it
+//! - `gates`: gates that count, and gates at which workers meet
+//! - `crews`: the tests
+#![tactic(auto)]
+
+#[cfg(test)]
+mod crews;
+#[cfg(test)]
+mod gates;
+#[cfg(test)]
+mod graphs;
