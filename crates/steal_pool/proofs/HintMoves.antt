@@ -6,7 +6,7 @@ use Rattle.crossbeam_deque.specs.Tasks.{Pushes, Takes, Pops, Forks}
 use Rattle.crossbeam_deque.proofs.Lists.{at_set, at_snoc}
 use Rattle.atomic_table.proofs.Lists.{set_again}
 use Rattle.steal_pool.specs.declared.hint_rule.Bound.{Bound}
-use Rattle.steal_pool.specs.Hints.{unbounded, bounded_by, bounded_by_zero, AllBelow, IsHintDeque, LearnsBound, MovesWithin}
+use Rattle.steal_pool.specs.Hints.{unbounded, bounded_by, AllBelow, IsHintDeque, LearnsBound, MovesWithin}
 
 one_view : (v : Bound) (j : ℕ) (u : Bound) → get_elem? (v ∷ []) j ≡ some u → v ≡ u
 one_view v zero u e = some-injective v u e

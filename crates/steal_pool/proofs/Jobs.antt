@@ -14,7 +14,7 @@ use Rattle.steal_pool.specs.declared.workspace.Progress.{Progress}
 use Rattle.steal_pool.specs.declared.workspace.Progress.TheVariants as progress
 use Rattle.steal_pool.specs.declared.workspace.Workspace.{Workspace}
 use Rattle.steal_pool.specs.Workspaces.{Thief, IsWorkspace}
-use Rattle.steal_pool.specs.Members.{pair_count, widest_of}
+use Rattle.steal_pool.specs.CrewMembers.{pair_count, widest_of}
 use Rattle.steal_pool.specs.Batches.{IsCarried, IsJob}
 
 pub same_base : (S S' : Preparation) → Some S ≡ Some S' → S ≡ S'

@@ -1,10 +1,10 @@
 -- The passes of a lock that was just made.
-use Rattle.std.proofs.Common.{List, ℕ, Some, get_or, slice_get, ◌≡◌, subst}
+use Rattle.std.proofs.Common.{List, ℕ, Some, get_or, slice_get, ◌≡◌}
 use Rattle.std.proofs.lemmas.Option.{slice_get-get_or}
 use Rattle.turn_lock.specs.declared.handles.TurnLock.{TurnLock}
 use Rattle.turn_lock.specs.declared.handles.Pass.{Pass}
 use Rattle.turn_lock.specs.Handles.{AllOut, IsNew}
-use Rattle.steal_pool.specs.Members.{AllOutWith}
+use Rattle.steal_pool.specs.CrewMembers.{AllOutWith}
 
 module _ {T B I : Type 0} where
   pub all_out_with : (base : T → B) (entries : T → List I) (x : T) (lock : TurnLock T B I) (ps : List (Pass T B I)) → AllOut lock ps

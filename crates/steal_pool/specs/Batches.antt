@@ -14,10 +14,10 @@ use Rattle.turn_lock.specs.Handles.{base_of, seen}
 use Rattle.steal_pool.specs.declared.workspace.Job.{Job}
 use Rattle.steal_pool.specs.declared.workspace.Progress.{Progress}
 use Rattle.steal_pool.specs.declared.workspace.Progress.TheVariants as progress
-use Rattle.steal_pool.specs.declared.member.Member.{Member}
+use Rattle.steal_pool.specs.declared.crew_member.CrewMember.{CrewMember}
 use Rattle.steal_pool.specs.declared.shared.Shared.{Shared}
 use Rattle.steal_pool.specs.Workspaces.{Thief}
-use Rattle.steal_pool.specs.Members.{IsMember, pair_count, widest_of}
+use Rattle.steal_pool.specs.CrewMembers.{IsCrewMember, pair_count, widest_of}
 
 -- the pair that a job has, if any
 abbrev pub pair_in : Progress → Option ℕ
@@ -53,6 +53,6 @@ SearchesBy T view (progress.Taken t) after = (found : Outcome) × (after ≡ pro
 SearchesBy T view (progress.Searched t found) after = after ≡ progress.Searched t found
 
 -- a worker that may go on, and whose jobs are good since its last turn
-pub record IsAtWork (lock : TurnLock Shared Preparation Entry) (thieves : List Thief) (m : Member Shared Preparation Entry) : Type 0 where
-  pub member : IsMember pair_count widest_of lock thieves m
+pub record IsAtWork (lock : TurnLock Shared Preparation Entry) (thieves : List Thief) (m : CrewMember Shared Preparation Entry) : Type 0 where
+  pub member : IsCrewMember pair_count widest_of lock thieves m
   pub jobs : (S : Preparation) → base_of m.pass ≡ Some S → All (IsJob S.task (seen m.pass)) m.workspace.jobs.items

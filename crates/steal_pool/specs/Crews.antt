@@ -8,10 +8,10 @@ use Rattle.chase_core.specs.Setup.{Preparation}
 use Rattle.turn_lock.specs.declared.handles.TurnLock.{TurnLock}
 use Rattle.turn_lock.specs.declared.handles.Pass.{Pass}
 use Rattle.turn_lock.specs.Handles.{seats_of}
-use Rattle.steal_pool.specs.declared.member.Member.{Member}
+use Rattle.steal_pool.specs.declared.crew_member.CrewMember.{CrewMember}
 use Rattle.steal_pool.specs.declared.shared.Shared.{Shared}
 use Rattle.steal_pool.specs.Workspaces.{Thief}
-use Rattle.steal_pool.specs.Members.{IsMember, pair_count, widest_of}
+use Rattle.steal_pool.specs.CrewMembers.{IsCrewMember, pair_count, widest_of}
 
 -- the setup and the journal of the chase that a crew has, and how many workers there are
 pub record CrewContents : Type 0 where
@@ -20,10 +20,10 @@ pub record CrewContents : Type 0 where
   pub workers : ℕ
 
 -- there is a worker for each seat of the lock, each may go on, and there is room for their passes
-pub record IsCrew (lock : TurnLock Shared Preparation Entry) (thieves : List Thief) (members : List (Member Shared Preparation Entry)) (home : Vec (Pass Shared Preparation Entry) Global) : Type 0 where
+pub record IsCrew (lock : TurnLock Shared Preparation Entry) (thieves : List Thief) (members : List (CrewMember Shared Preparation Entry)) (home : Vec (Pass Shared Preparation Entry) Global) : Type 0 where
   pub some_seat : 0 < seats_of lock
   pub few : seats_of lock ≤ 64
   pub seats : length members ≡ seats_of lock
   pub empty : vec_len home ≡ 0
   pub room : length members ≤ vec_capacity home
-  pub each : All (IsMember pair_count widest_of lock thieves) members
+  pub each : All (IsCrewMember pair_count widest_of lock thieves) members

@@ -2,11 +2,11 @@
 
 ghost use Rattle.std.specs.Prelude.{◌≡◌, ◌<◌, ◌≤◌, ℕ, All, IfOk, IfErr, vec_len, vec_capacity};
 ghost use Rattle.chase_core.specs.Setup.{Preparation};
-ghost use Rattle.steal_pool.specs.Members.{IsMember, AllOutWith, pair_count, widest_of};
+ghost use Rattle.steal_pool.specs.CrewMembers.{IsCrewMember, AllOutWith, pair_count, widest_of};
 ghost use Rattle.steal_pool.specs.Workspaces.{IsWorkspace};
 
+use crate::crew_member::CrewMember;
 use crate::hints::Thief;
-use crate::member::Member;
 use crate::shared::Shared;
 use crate::workspace::Workspace;
 use crate::workspaces::workspaces;
@@ -21,7 +21,7 @@ use turn_lock::{Pass, TurnLock};
 pub struct Crew<'a> {
     pub(crate) lock: TurnLock<Shared<'a>>,
     pub(crate) thieves: Vec<Thief>,
-    pub(crate) members: Vec<Member<Shared<'a>>>,
+    pub(crate) members: Vec<CrewMember<Shared<'a>>>,
     /// Room for the passes when they come back.
     pub(crate) home: Vec<Pass<Shared<'a>>>,
 }
@@ -44,18 +44,18 @@ fn members_of<'a>(
     thieves: &[Thief],
     passes: &mut Vec<Pass<Shared<'a>>>,
     workspaces: &mut Vec<Workspace>,
-    members: &mut Vec<Member<Shared<'a>>>,
+    members: &mut Vec<CrewMember<Shared<'a>>>,
 )
     requires count { vec_len passes.old ≡ vec_len workspaces.old }
     requires room { (vec_len members.old ≡ 0) × (vec_len passes.old ≤ vec_capacity members.old) }
     requires parts { (S : Preparation) × AllOutWith lock.now S passes.old.items × All (IsWorkspace (pair_count S) (widest_of S) thieves.now) workspaces.old.items }
     ensures count { vec_len members.new ≡ vec_len passes.old }
     ensures home { (vec_len passes.new ≡ 0) × (vec_capacity passes.new ≡ vec_capacity passes.old) }
-    ensures members { All (IsMember pair_count widest_of lock.now thieves.now) members.new.items }
+    ensures members { All (IsCrewMember pair_count widest_of lock.now thieves.now) members.new.items }
 {
     while let Some(pass) = passes.pop() {
         let workspace = workspaces.pop().unwrap();
-        members.push_reserved(Member { pass, workspace });
+        members.push_reserved(CrewMember { pass, workspace });
     }
 }
 

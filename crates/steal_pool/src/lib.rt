@@ -14,7 +14,7 @@
 //! - `turns`: a turn of a worker
 //! - `batch`: what a worker does with the chase in a turn
 //! - `hunt`: where a worker looks for a hint
-//! - `member`: a worker with its pass of the lock
+//! - `crew_member`: a worker with its pass of the lock
 //! - `workspace`: what a worker has besides
 //! - `workspaces`: the workspaces of all workers
 //! - `deques`: the workers' deques, and the passes for stealing from them
@@ -24,12 +24,12 @@
 
 mod batch;
 mod crew;
+mod crew_member;
 mod deques;
 mod gate;
 mod hint_rule;
 mod hints;
 mod hunt;
-mod member;
 mod run;
 mod shared;
 mod threads;

@@ -4,8 +4,8 @@ ghost use Rattle.std.specs.Prelude.{◌≡◌, ◌++◌, List};
 ghost use Rattle.chase_laws.specs.declared.entry.Entry.{Entry};
 
 use crate::crew::Crew;
+use crate::crew_member::CrewMember;
 use crate::gate::Gate;
-use crate::member::Member;
 use crate::shared::Shared;
 use crate::threads::work_all;
 use chase_core::Chase;
@@ -41,7 +41,7 @@ pub fn run_crew<'a, G: Gate, R: Threads + Wait + Sync>(
         members.as_mut_slice(),
     );
     while let Some(member) = members.pop() {
-        let Member { pass, workspace: _ } = member;
+        let CrewMember { pass, workspace: _ } = member;
         home.push_reserved(pass);
     }
     let Shared { chase } = lock.close(home);

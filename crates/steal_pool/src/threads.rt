@@ -1,11 +1,11 @@
 //! Workers in threads of their own, over any value: the lifetime of the value stays behind the type parameter.
 
 ghost use Rattle.std.specs.Prelude.{◌≡◌, ℕ, All};
-ghost use Rattle.steal_pool.specs.Members.{IsMember};
+ghost use Rattle.steal_pool.specs.CrewMembers.{IsCrewMember};
 
+use crate::crew_member::CrewMember;
 use crate::gate::Gate;
 use crate::hints::Thief;
-use crate::member::Member;
 use std::sync::Wait;
 use std::sync::atomic::AtomicU64;
 use std::thread;
@@ -27,10 +27,10 @@ pub trait Work: Journaled {
         thieves: &[Thief],
         gate: &G,
         in_search: &AtomicU64,
-        member: &mut Member<Self>,
+        member: &mut CrewMember<Self>,
     )
-        requires { IsMember pairs widest lock.now thieves.now member.old }
-        ensures { IsMember pairs widest lock.now thieves.now member.new };
+        requires { IsCrewMember pairs widest lock.now thieves.now member.old }
+        ensures { IsCrewMember pairs widest lock.now thieves.now member.new };
 }
 
 /// Each worker in a thread of its own. All have ended when it returns.
@@ -40,18 +40,18 @@ pub fn work_all<T: Work + Send, G: Gate, R: Threads + Wait + Sync>(
     thieves: &[Thief],
     gate: &G,
     in_search: &AtomicU64,
-    members: &mut [Member<T>],
+    members: &mut [CrewMember<T>],
 )
-    requires { All (IsMember T.pairs T.widest lock.now thieves.now) members.old }
-    ensures { All (IsMember T.pairs T.widest lock.now thieves.now) members.new }
+    requires { All (IsCrewMember T.pairs T.widest lock.now thieves.now) members.old }
+    ensures { All (IsCrewMember T.pairs T.widest lock.now thieves.now) members.new }
 {
     thread::for_each_mut(
         rt,
         members,
         64,
         &|_, member|
-            requires { IsMember T.pairs T.widest lock.now thieves.now member.now }
-            ensures { IsMember T.pairs T.widest lock.entry.now thieves.entry.now member.exit.now }
+            requires { IsCrewMember T.pairs T.widest lock.now thieves.now member.now }
+            ensures { IsCrewMember T.pairs T.widest lock.entry.now thieves.entry.now member.exit.now }
         { T::work(rt, lock, thieves, gate, in_search, member) },
     );
 }

@@ -5,9 +5,9 @@ ghost use Rattle.turn_lock.specs.Handles.{base_of};
 ghost use Rattle.steal_pool.specs.Batches.{IsAtWork};
 
 use crate::batch::{Next, resize, settle_and_take};
+use crate::crew_member::CrewMember;
 use crate::hints::Thief;
 use crate::hunt::push_kept;
-use crate::member::Member;
 use crate::shared::Shared;
 use chase_core::Setup;
 use chase_core::held_law::law_held;
@@ -33,7 +33,7 @@ fn count_out(in_search: &AtomicU64, before: bool, now: bool) {
 fn push_woken<'a>(
     lock: &TurnLock<Shared<'a>>,
     thieves: &[Thief],
-    member: &mut Member<Shared<'a>>,
+    member: &mut CrewMember<Shared<'a>>,
 )
     requires { IsAtWork lock.now thieves.now member.old }
     ensures at_work { IsAtWork lock.now thieves.now member.new }
@@ -52,7 +52,7 @@ fn settle_and_take_in_turn<'a, R: Wait>(
     lock: &TurnLock<Shared<'a>>,
     thieves: &[Thief],
     in_search: &AtomicU64,
-    member: &mut Member<Shared<'a>>,
+    member: &mut CrewMember<Shared<'a>>,
 ) -> (Next, &'a Setup)
     requires { IsAtWork lock.now thieves.now member.old }
     ensures at_work { IsAtWork lock.now thieves.now member.new }
@@ -80,7 +80,7 @@ pub fn change_batch<'a, R: Wait>(
     lock: &TurnLock<Shared<'a>>,
     thieves: &[Thief],
     in_search: &AtomicU64,
-    member: &mut Member<Shared<'a>>,
+    member: &mut CrewMember<Shared<'a>>,
 ) -> (Next, &'a Setup)
     requires { IsAtWork lock.now thieves.now member.old }
     ensures at_work { IsAtWork lock.now thieves.now member.new }

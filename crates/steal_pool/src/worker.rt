@@ -5,14 +5,14 @@ ghost use Rattle.chase_laws.specs.declared.entry.Entry.{Entry};
 ghost use Rattle.chase_laws.specs.Core.{Task};
 ghost use Rattle.turn_lock.specs.Handles.{base_of};
 ghost use Rattle.steal_pool.specs.Workspaces.{HasRoom};
-ghost use Rattle.steal_pool.specs.Members.{IsMember, pair_count, widest_of};
+ghost use Rattle.steal_pool.specs.CrewMembers.{IsCrewMember, pair_count, widest_of};
 ghost use Rattle.steal_pool.specs.Batches.{IsAtWork, IsJob, SearchesBy};
 
 use crate::batch::Next;
+use crate::crew_member::CrewMember;
 use crate::gate::Gate;
 use crate::hints::Thief;
 use crate::hunt::next_hint;
-use crate::member::Member;
 use crate::shared::Shared;
 use crate::threads::Work;
 use crate::turns::change_batch;
@@ -44,7 +44,7 @@ fn search_at<'a>(
     lock: &TurnLock<Shared<'a>>,
     thieves: &[Thief],
     setup: &Setup,
-    member: &mut Member<Shared<'a>>,
+    member: &mut CrewMember<Shared<'a>>,
     k: usize,
 )
     requires at_work { IsAtWork lock.now thieves.now member.old }
@@ -68,8 +68,8 @@ fn free_all(jobs: &mut Vec<Job>)
 }
 
 /// A worker that begins has no pair.
-fn begin<'a>(lock: &TurnLock<Shared<'a>>, thieves: &[Thief], member: &mut Member<Shared<'a>>)
-    requires { IsMember pair_count widest_of lock.now thieves.now member.old }
+fn begin<'a>(lock: &TurnLock<Shared<'a>>, thieves: &[Thief], member: &mut CrewMember<Shared<'a>>)
+    requires { IsCrewMember pair_count widest_of lock.now thieves.now member.old }
     ensures { IsAtWork lock.now thieves.now member.new }
 {
     free_all(&mut member.workspace.jobs);
@@ -79,7 +79,7 @@ fn begin<'a>(lock: &TurnLock<Shared<'a>>, thieves: &[Thief], member: &mut Member
 fn find_hint<'a>(
     lock: &TurnLock<Shared<'a>>,
     thieves: &[Thief],
-    member: &mut Member<Shared<'a>>,
+    member: &mut CrewMember<Shared<'a>>,
 ) -> bool
     requires { IsAtWork lock.now thieves.now member.old }
     ensures { IsAtWork lock.now thieves.now member.new }
@@ -100,7 +100,7 @@ fn look_again<'a, R: Wait>(
     lock: &TurnLock<Shared<'a>>,
     thieves: &[Thief],
     in_search: &AtomicU64,
-    member: &mut Member<Shared<'a>>,
+    member: &mut CrewMember<Shared<'a>>,
 )
     requires { IsAtWork lock.now thieves.now member.old }
     ensures { IsAtWork lock.now thieves.now member.new }
@@ -125,7 +125,7 @@ impl<'a> Work for Shared<'a> {
         thieves: &[Thief],
         gate: &G,
         in_search: &AtomicU64,
-        member: &mut Member<Shared<'a>>,
+        member: &mut CrewMember<Shared<'a>>,
     ) {
         begin(lock, thieves, member);
         for _ in rt.forever() {

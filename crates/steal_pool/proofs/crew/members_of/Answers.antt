@@ -5,10 +5,10 @@ use Rattle.turn_lock.specs.declared.handles.Pass.{Pass}
 use Rattle.chase_core.specs.Setup.{Preparation}
 use Rattle.chase_laws.specs.declared.entry.Entry.{Entry}
 use Rattle.steal_pool.specs.declared.shared.Shared.{Shared}
-use Rattle.steal_pool.specs.declared.member.Member.{Member}
+use Rattle.steal_pool.specs.declared.crew_member.CrewMember.{CrewMember}
 use Rattle.steal_pool.specs.declared.workspace.Workspace.{Workspace}
 use Rattle.steal_pool.specs.Workspaces.{IsWorkspace}
-use Rattle.steal_pool.specs.Members.{IsMember, pair_count, widest_of}
+use Rattle.steal_pool.specs.CrewMembers.{IsCrewMember, pair_count, widest_of}
 use Rattle.steal_pool.proofs.crew.members_of.Goals as goal
 
 pub loop-pass-preserved : goal.loop-pass-preserved
@@ -17,7 +17,7 @@ loop-pass-preserved c =
     let S = v.parts.0 in
     let P : Pass Shared Preparation Entry → Type 0 = λ p. IsPassOf c.args.lock.now p × IsOut p × (base_of p ≡ Some S) in
     let Q : Workspace → Type 0 = IsWorkspace (pair_count S) (widest_of S) c.args.thieves.now in
-    let H : Member Shared Preparation Entry → Type 0 = IsMember pair_count widest_of c.args.lock.now c.args.thieves.now in
+    let H : CrewMember Shared Preparation Entry → Type 0 = IsCrewMember pair_count widest_of c.args.lock.now c.args.thieves.now in
     let ps = All-pop P c.loop-pass.passes.items c.pop.new.self.items (Some c.in-Some.pass) c.in-Some.ensures.items v.parts.1 in
     let ws = All-pop Q c.loop-pass.workspaces.items c.pop-in-Some.new.self.items c.pop-in-Some.result c.pop-in-Some.ensures.items v.parts.2 in
     record {

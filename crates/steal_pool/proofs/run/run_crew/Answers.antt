@@ -4,16 +4,16 @@ use Rattle.turn_lock.specs.declared.handles.Pass.{Pass}
 use Rattle.turn_lock.specs.Handles.{IsPassOf, IsOut}
 use Rattle.chase_core.specs.Setup.{Preparation}
 use Rattle.chase_laws.specs.declared.entry.Entry.{Entry}
-use Rattle.steal_pool.specs.Members.{IsMember, pair_count, widest_of}
+use Rattle.steal_pool.specs.CrewMembers.{IsCrewMember, pair_count, widest_of}
 use Rattle.steal_pool.specs.declared.shared.Shared.{Shared}
-use Rattle.steal_pool.specs.declared.member.Member.{Member}
+use Rattle.steal_pool.specs.declared.crew_member.CrewMember.{CrewMember}
 use Rattle.steal_pool.proofs.run.run_crew.Goals as goal
 
 pub loop-member-preserved : goal.loop-member-preserved
 loop-member-preserved g c =
     let v = c.loop-member.invariant in
     let lock = c.crew.inside.lock in
-    let H : Member Shared Preparation Entry → Type 0 = IsMember pair_count widest_of lock c.crew.inside.thieves.items in
+    let H : CrewMember Shared Preparation Entry → Type 0 = IsCrewMember pair_count widest_of lock c.crew.inside.thieves.items in
     let Q : Pass Shared Preparation Entry → Type 0 = λ p. IsPassOf lock p × IsOut p in
     let hs = All-pop H c.loop-member.members.items c.pop.new.self.items (Some c.in-Some.member) c.in-Some.ensures.items v.members in
     record {

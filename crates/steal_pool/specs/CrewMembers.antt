@@ -6,10 +6,10 @@ use Rattle.turn_lock.specs.declared.handles.TurnLock.{TurnLock}
 use Rattle.turn_lock.specs.Handles.{IsPassOf, IsOut, base_of}
 use Rattle.chase_core.specs.Setup.{Preparation}
 use Rattle.steal_pool.specs.Workspaces.{Thief, IsWorkspace}
-use Rattle.steal_pool.specs.declared.member.Member.{Member}
+use Rattle.steal_pool.specs.declared.crew_member.CrewMember.{CrewMember}
 
 -- its pass is one of the lock's and has no turn, and its workspace is for the value's base
-pub record IsMember {T B I : Type 0} (pairs widest : B → ℕ) (lock : TurnLock T B I) (thieves : List Thief) (m : Member T B I) : Type 0 where
+pub record IsCrewMember {T B I : Type 0} (pairs widest : B → ℕ) (lock : TurnLock T B I) (thieves : List Thief) (m : CrewMember T B I) : Type 0 where
   pub pass : IsPassOf lock m.pass
   pub out : IsOut m.pass
   pub base : B

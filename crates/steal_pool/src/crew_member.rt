@@ -5,7 +5,7 @@ use turn_lock::{Journaled, Pass};
 
 /// A worker.
 #[derive(Drop)]
-pub struct Member<T: Journaled> {
+pub struct CrewMember<T: Journaled> {
     pub pass: Pass<T>,
     pub workspace: Workspace,
 }
