@@ -72,7 +72,10 @@ fn crews_of_all_sizes_come_to_the_same(rt: HostRuntime) -> Result<(), Fail> {
         for kind in [Kind::Alone, Kind::Chain] {
             let prepared = prepared(&rt, alloc, kind, count)?;
             for workers in [1, 2, 4, 64] {
-                assert_eq!(&rt; run(&rt, alloc, &prepared.setup, workers, &OpenGate)?, count as usize);
+                assert_eq!(&rt;
+                    run(&rt, alloc, &prepared.setup, workers, &OpenGate)?,
+                    count as usize
+                );
             }
         }
     }

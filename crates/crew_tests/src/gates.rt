@@ -16,12 +16,9 @@ const NONE: u64 = 1 << 32;
 
 impl Gate for Counts {
     fn pass(&self, _worker: u32, pair: u32) {
-        let _ = self.first.compare_exchange(
-            NONE,
-            u64::from(pair),
-            Ordering::SeqCst,
-            Ordering::SeqCst,
-        );
+        let _ = self
+            .first
+            .compare_exchange(NONE, u64::from(pair), Ordering::SeqCst, Ordering::SeqCst);
         if let Some(count) = self.passed.get(pair as usize) {
             count.fetch_add(1, Ordering::SeqCst);
         }
