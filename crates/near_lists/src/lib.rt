@@ -8,7 +8,6 @@
 //! - `filling`: many lists of known lengths, filled in any order
 //! - `turn`: for each number the lists that have it
 //! - `pairs`: for each number the pairs that have it
-//! - `fits`: what fits a slot
 //! - `legs`: the legs of walks along a pattern
 //! - `walk`: walks along the legs
 //! - `entities`: the entities that walks reach
@@ -16,7 +15,6 @@
 
 mod entities;
 mod filling;
-mod fits;
 mod legs;
 mod near;
 mod pairs;

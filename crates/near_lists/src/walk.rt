@@ -13,7 +13,6 @@ ghost use Rattle.near_lists.specs.Adding.{Adds};
 ghost use Rattle.near_lists.specs.Legs.{AreLegs};
 ghost use Rattle.near_lists.specs.Walks.{HasRowBy, Leads, Brings, IsFound};
 
-use crate::fits::fits;
 use crate::legs::{Leg, is_entity};
 use crate::rows::Rows;
 use chase_laws::{Pattern, Slot};
@@ -31,7 +30,7 @@ fn push_fitting(
     ensures { OnOk result (Adds found.old.items found.new.items (λ n. Contains names.now n × FitsSlot graph.now slot n)) }
 {
     for n in names {
-        if fits(graph, slot, *n) {
+        if graph.fits_slot(slot, *n) {
             found.push(*n)?;
         }
     }
@@ -210,7 +209,7 @@ pub fn push_near(
     requires { AreLegs pattern.now legs.now }
     ensures { OnOk result (Adds entities.old.items entities.new.items (IsInReach graph.now pattern.now start)) }
 {
-    if fits(graph, Slot::Entity(pattern.designated_type()), start) {
+    if graph.fits_slot(Slot::Entity(pattern.designated_type()), start) {
         entities.push(start)?;
         take_legs(graph, legs, start, walk)?;
         push_entities(legs, &walk.lists, entities)?;

@@ -11,19 +11,6 @@ use chase_laws::{Edge, Places, Slot};
 use key_plan::Plan;
 use typed_graph::Graph;
 
-/// Whether a name may stand at a slot.
-fn fits_slot(graph: &Graph, slot: Slot, n: u32) -> bool
-    ensures { IsTrue result ↔ FitsSlot graph.now slot n }
-{
-    match slot {
-        Slot::Entity(t) => !graph.is_literal(n) && graph.has_type(n, t),
-        Slot::Any(t) => !graph.is_literal(n) && graph.has_type(n, t),
-        Slot::Value => graph.is_literal(n),
-        Slot::Folded => graph.is_literal(n),
-        Slot::Fixed(c) => n == c,
-    }
-}
-
 /// Whether two numbers are literals that are alike.
 fn are_alike_literals(graph: &Graph, m: u32, n: u32) -> bool
     ensures { IsTrue result ↔ (IsLiteral graph.now m × IsLiteral graph.now n × AreAlike graph.now m n) }
@@ -114,7 +101,7 @@ pub fn goes_on(
 {
     // Only the contract speaks of the plan: its pattern is the one that the list is part of a valuation of.
     let _ = plan;
-    if !is_new(places, m) || !fits_slot(graph, slot, m) {
+    if !is_new(places, m) || !graph.fits_slot(slot, m) {
         return false;
     }
     edges_hold(graph, block, known, places, m)

@@ -6,10 +6,14 @@ ghost use Rattle.std.specs.Ordering.{nat_cmp};
 ghost use Rattle.std.specs.Cmp.Lexicographic.{slice_cmp};
 ghost use Rattle.std.specs.List.Sorted.{IsStrictlyIncreasing, IsStrictlySortedBy};
 ghost use Rattle.chase_laws.specs.Graph.{NumberedGraph, IsGraph, IsFolding, HasRow, HasType, IsLiteral, IsEntity};
+ghost use Rattle.chase_laws.specs.Valuation.{FitsSlot};
+ghost use Rattle.typed_graph.specs.Types.{IsTrueOf};
 
 use crate::Index;
 use crate::ascending::holds;
 use crate::rows::{sorted, turn};
+use crate::types::{TypesOf, types_of_all};
+use chase_laws::Slot;
 use gk_base::NoMemory;
 use std::alloc::Global;
 use std::marker::Model;
@@ -27,6 +31,8 @@ pub struct Graph {
     forward: Index,
     /// The rows as object, predicate, subject.
     backward: Index,
+    /// What is kept of each name's types.
+    types: Vec<TypesOf>,
 }
 
 impl Model for Graph {
@@ -66,6 +72,7 @@ impl Graph {
         let rows = sorted(rows);
         let forward = Index::from_sorted(alloc, &rows, names)?;
         let backward = Index::build(alloc, turn(alloc, &rows)?, names)?;
+        let types = types_of_all(alloc, &forward, rdf_type, names)?;
         Ok(Graph {
             rows,
             literal,
@@ -73,6 +80,7 @@ impl Graph {
             alike,
             forward,
             backward,
+            types,
         })
     }
 
@@ -137,13 +145,47 @@ impl Graph {
         }
     }
 
-    /// Whether `t` is a type of `n`.
-    pub fn has_type(&self, n: u32, t: u32) -> bool
+    /// What is kept of the types of `n`.
+    fn types_of(&self, n: u32) -> TypesOf
+        ensures { IsTrueOf result (λ t. HasType self.now n t) }
+    {
+        let at = n as usize;
+        if at < self.types.len() {
+            self.types[at]
+        } else {
+            TypesOf::Untyped
+        }
+    }
+
+    /// Whether the rows have `t` as a type of `n`.
+    fn has_type_row(&self, n: u32, t: u32) -> bool
         ensures { IsTrue result ↔ HasType self.now n t }
     {
         match self.rdf_type {
             Some(p) => self.has(n, p, t),
             None => false,
+        }
+    }
+
+    /// Whether `t` is a type of `n`: one look where `n` has at most one type.
+    pub fn has_type(&self, n: u32, t: u32) -> bool
+        ensures { IsTrue result ↔ HasType self.now n t }
+    {
+        match self.types_of(n) {
+            TypesOf::Untyped => false,
+            TypesOf::One(only) => only == t,
+            TypesOf::Several => self.has_type_row(n, t),
+        }
+    }
+
+    /// Whether `n` may stand at a slot: by its type, its kind or, at a constant, by what it is.
+    pub fn fits_slot(&self, slot: Slot, n: u32) -> bool
+        ensures { IsTrue result ↔ FitsSlot self.now slot n }
+    {
+        match slot {
+            Slot::Entity(t) | Slot::Any(t) => self.has_type(n, t) && !self.is_literal(n),
+            Slot::Value | Slot::Folded => self.is_literal(n),
+            Slot::Fixed(c) => n == c,
         }
     }
 

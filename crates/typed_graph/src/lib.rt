@@ -7,12 +7,14 @@
 //! - `index`: one sorted order of rows
 //! - `ascending`: look-ups in ascending numbers
 //! - `rows`: lists of rows
+//! - `types`: what is kept of each name's types
 #![tactic(auto)]
 
 pub mod ascending;
 mod graph;
 mod index;
 mod rows;
+mod types;
 
 pub use graph::Graph;
 pub use index::Index;

@@ -1,6 +1,7 @@
 -- The two tables have the rows.
-use Rattle.std.proofs.Common.{◌≡◌, map, ◌∙◌, ap, arith}
+use Rattle.std.proofs.Common.{[], ◌∷◌, Contains, ◌≡◌, map, ◌∙◌, ap, sym, arith}
 use Rattle.typed_graph.specs.Blocks.{turned}
+use Rattle.typed_graph.proofs.KeptTypes.{true_by_rows}
 use Rattle.typed_graph.proofs.Order.{all_named, firsts_named, turned_firsts, has_turned, rows_rise, chain}
 use Rattle.typed_graph.proofs.graph.Graph.build.Goals as goal
 
@@ -33,6 +34,8 @@ invariant_of-result c =
         literals = c.requires.folding.literals;
         others = c.requires.folding.others;
       };
+      typed = c.in_ok-types.ensures.count ∙ sym c.requires.flags;
+      types = λ n d h. true_by_rows c.in_ok-forward.forward (λ m p t. Contains rows (m ∷ p ∷ t ∷ [])) (λ m p t. rw c.deref.ensures.value at (c.in_ok-forward.ensures m p t)) c.args.rdf_type _ n (c.in_ok-types.ensures.each n d (rw c.requires.flags at h));
       type_named = rw c.requires.flags c.requires.type_named;
       few = rw c.requires.flags (omega arith);
     }
