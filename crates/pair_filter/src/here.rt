@@ -9,19 +9,6 @@ use crate::parts::slot_at;
 use chase_laws::{Pattern, Slot};
 use typed_graph::Graph;
 
-/// Whether a name may stand at a slot.
-fn fits_slot(graph: &Graph, slot: Slot, n: u32) -> bool
-    ensures { IsTrue result ↔ FitsSlot graph.now slot n }
-{
-    match slot {
-        Slot::Entity(t) => !graph.is_literal(n) && graph.has_type(n, t),
-        Slot::Any(t) => !graph.is_literal(n) && graph.has_type(n, t),
-        Slot::Value => graph.is_literal(n),
-        Slot::Folded => graph.is_literal(n),
-        Slot::Fixed(c) => n == c,
-    }
-}
-
 /// Whether two literals are alike.
 fn are_alike(graph: &Graph, u: u32, w: u32) -> bool
     requires left { IsLiteral graph.now u }
@@ -50,7 +37,7 @@ pub(crate) fn is_here(graph: &Graph, pattern: &Pattern, s: u8, n: u32) -> bool
     requires { s < length pattern.now.slots }
     ensures { IsTrue result ↔ PairedHere graph.now pattern.now s n n }
 {
-    fits_slot(graph, slot_at(pattern, s), n)
+    graph.fits_slot(slot_at(pattern, s), n)
 }
 
 /// Whether two names may stand at slot `s`, and can go together there.
@@ -59,7 +46,7 @@ pub(crate) fn are_here(graph: &Graph, pattern: &Pattern, s: u8, u: u32, w: u32) 
     ensures { IsTrue result ↔ PairedHere graph.now pattern.now s u w }
 {
     let slot = slot_at(pattern, s);
-    if !fits_slot(graph, slot, u) || !fits_slot(graph, slot, w) {
+    if !graph.fits_slot(slot, u) || !graph.fits_slot(slot, w) {
         return false;
     }
     go_together(graph, slot, u, w)

@@ -1,15 +1,17 @@
 //! Which candidate pairs are kept.
 
 ghost use Rattle.std.specs.Prelude.{◌≡◌, ◌≤◌, ◌↔◌, ℕ, Contains, IfOk, IsTrue, length};
+ghost use Rattle.chase_laws.specs.declared.pattern.Slot.TheVariants.{Entity};
 ghost use Rattle.chase_laws.specs.Candidate.{AreAscending};
 ghost use Rattle.chase_laws.specs.Chase.{IsAble};
-ghost use Rattle.chase_laws.specs.Pairing.{ArePairedBy};
+ghost use Rattle.chase_laws.specs.Pairing.{PairedHere, ArePairedBy};
+ghost use Rattle.chase_laws.specs.Valuation.{FitsSlot};
 ghost use Rattle.pair_filter.specs.Along.{ArePairedUnder};
 ghost use Rattle.pair_filter.specs.Selection.{IsSelection};
 
-use crate::paired::are_paired;
-use chase_laws::Pattern;
+use crate::paired::are_paired_along;
 use chase_laws::laws::law_paired;
+use chase_laws::{Pattern, Slot};
 use gk_base::NoMemory;
 use rayon::current_num_threads;
 use rayon::prelude::*;
@@ -23,20 +25,37 @@ const FEW: usize = 2048;
 /// How many edges away from its two names a pair is looked at.
 const DEPTH: u8 = 2;
 
-/// Whether a key pairs two names to depth 2.
+/// Whether two names are entities of a type.
+fn have_type(graph: &Graph, t: u32, a: u32, b: u32) -> bool
+    ensures { IsTrue result ↔ (FitsSlot graph.now (Entity t) a × FitsSlot graph.now (Entity t) b) }
+{
+    graph.fits_slot(Slot::Entity(t), a) && graph.fits_slot(Slot::Entity(t), b)
+}
+
+/// Whether a key pairs two names to depth 2 which can go together at its first slot.
 fn is_kept_by(graph: &Graph, pattern: &Pattern, a: u32, b: u32) -> bool
+    requires { PairedHere graph.now pattern.now 0 a b }
     ensures { IsTrue result ↔ ArePairedUnder graph.now pattern.now a b }
 {
     // A fact for the proof: slot 0 is an entity variable.
     let _ = pattern.designated_type();
-    are_paired(graph, pattern, DEPTH, 0, a, b)
+    are_paired_along(graph, pattern, None, DEPTH, 0, a, b)
 }
 
-/// Whether some key does.
+/// Whether some key does. Of keys behind one another that designate one type, the type is tested once where it is missing.
 fn is_kept(graph: &Graph, patterns: &[Pattern], pair: (u32, u32)) -> bool
     ensures { IsTrue result ↔ ArePairedBy graph.now patterns.now 2 pair.0 pair.1 }
 {
+    let mut missing = None;
     for pattern in patterns {
+        let designated = pattern.designated_type();
+        if missing == Some(designated) {
+            continue;
+        }
+        if !have_type(graph, designated, pair.0, pair.1) {
+            missing = Some(designated);
+            continue;
+        }
         if is_kept_by(graph, pattern, pair.0, pair.1) {
             return true;
         }

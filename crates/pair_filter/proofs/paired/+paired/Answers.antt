@@ -2,15 +2,18 @@ use Rattle.std.proofs.Common.{ℕ, Some, Contains, slice_get, ◌-◌, ◌≡◌
 use Rattle.chase_laws.specs.declared.pattern.Slot.{Slot}
 use Rattle.chase_laws.specs.declared.pattern.Slot.TheVariants.{Value, Fixed}
 use Rattle.chase_laws.specs.Graph.{HasRow}
-use Rattle.chase_laws.specs.Pairing.{ArePaired}
-use Rattle.pair_filter.proofs.Steps.{left_alone, right_alone, paired_by_edges, not_along, have_paired_rows, same_value, same_constant, shares_value, contains_more}
+use Rattle.pair_filter.specs.Along.{ArePairedExcept}
+use Rattle.pair_filter.proofs.Steps.{left_alone, right_alone, paired_at_once, paired_by_edges, not_along, led_forth, led_back, have_paired_rows, same_value, same_constant, shares_value, contains_more}
 use Rattle.pair_filter.proofs.paired.+paired.Goals as goal
 
 pub are_paired_forth-returns : goal.are_paired_forth-returns
 are_paired_forth-returns t c =
     let G = c.args.graph.now in
+    let Q = c.args.pattern.now in
     let p = c.args.edge.pred in
-    let rows = have_paired_rows G c.args.pattern.now (λ o. HasRow G c.args.u p o) (λ o. HasRow G c.args.w p o) c.outgoing-us.result.now c.outgoing-ws.result.now c.outgoing-us.ensures.exact c.outgoing-ws.ensures.exact c.args.depth c.args.edge.to in (
+    let skipped = c.skipped_from-skipped in
+    let led = led_forth G Q skipped.result c.args.depth c.args.place c.args.s c.args.u c.args.w c.args.edge skipped.ensures c.requires.edge c.if-edge-s.false c.requires.here in
+    let rows = have_paired_rows G Q (λ o. HasRow G c.args.u p o) (λ o. HasRow G c.args.w p o) c.outgoing-us.result.now c.outgoing-ws.result.now c.outgoing-us.ensures.exact c.outgoing-ws.ensures.exact skipped.result c.args.depth c.args.edge.to led in (
       (λ h at. rows.0 (c.have_paired.ensures.0 h)),
       (λ h. c.have_paired.ensures.1 (rows.1 (h c.if-edge-s.false))),
     )
@@ -18,28 +21,31 @@ are_paired_forth-returns t c =
 pub are_paired_back-returns : goal.are_paired_back-returns
 are_paired_back-returns t c =
     let G = c.args.graph.now in
+    let Q = c.args.pattern.now in
     let p = c.args.edge.pred in
-    let rows = have_paired_rows G c.args.pattern.now (λ o. HasRow G o p c.args.u) (λ o. HasRow G o p c.args.w) c.incoming-us.result.now c.incoming-ws.result.now c.incoming-us.ensures.exact c.incoming-ws.ensures.exact c.args.depth c.args.edge.from in (
+    let skipped = c.skipped_from-skipped in
+    let led = led_back G Q skipped.result c.args.depth c.args.place c.args.s c.args.u c.args.w c.args.edge skipped.ensures c.requires.edge c.if-edge-s.false c.requires.here in
+    let rows = have_paired_rows G Q (λ o. HasRow G o p c.args.u) (λ o. HasRow G o p c.args.w) c.incoming-us.result.now c.incoming-ws.result.now c.incoming-us.ensures.exact c.incoming-ws.ensures.exact skipped.result c.args.depth c.args.edge.from led in (
       (λ h at. rows.0 (c.have_paired.ensures.0 h)),
       (λ h. c.have_paired.ensures.1 (rows.1 (h c.if-edge-s.false))),
     )
 
-pub are_paired-returns-then-not-are_paired_forth : goal.are_paired-returns-then-not-are_paired_forth
-are_paired-returns-then-not-are_paired_forth t c =
-    let none = not_along c.args.graph.now c.args.pattern.now c.args.depth (c.args.depth - 1) c.args.s c.args.u c.args.w (omega (arith, c.if-depth-eq0.false)) c.loop-place.place c.edge_at-edge.result c.edge_at-edge.ensures.edge
+pub are_paired_along-returns-then-not-are_paired_forth : goal.are_paired_along-returns-then-not-are_paired_forth
+are_paired_along-returns-then-not-are_paired_forth t c =
+    let none = not_along c.args.graph.now c.args.pattern.now c.args.skipped c.args.depth (c.args.depth - 1) c.args.s c.args.u c.args.w (omega (arith, c.if-depth-eq0.false)) c.loop-place.place c.edge_at-edge.result (λ e. true≢false (sym (c.is_skipped.ensures.1 e) ∙ c.if-is_skipped.false)) c.edge_at-edge.ensures.edge
     (λ along. true≢false (sym (c.are_paired_forth.ensures.1 along.0) ∙ c.if-not-are_paired_forth.true)) in
     ((λ f. absurd (true≢false (sym f))), (λ h. absurd (none h)))
 
-pub are_paired-returns-then-not-are_paired_back : goal.are_paired-returns-then-not-are_paired_back
-are_paired-returns-then-not-are_paired_back t c =
-    let none = not_along c.args.graph.now c.args.pattern.now c.args.depth (c.args.depth - 1) c.args.s c.args.u c.args.w (omega (arith, c.if-depth-eq0.false)) c.loop-place.place c.edge_at-edge.result c.edge_at-edge.ensures.edge
+pub are_paired_along-returns-then-not-are_paired_back : goal.are_paired_along-returns-then-not-are_paired_back
+are_paired_along-returns-then-not-are_paired_back t c =
+    let none = not_along c.args.graph.now c.args.pattern.now c.args.skipped c.args.depth (c.args.depth - 1) c.args.s c.args.u c.args.w (omega (arith, c.if-depth-eq0.false)) c.loop-place.place c.edge_at-edge.result (λ e. true≢false (sym (c.is_skipped.ensures.1 e) ∙ c.if-is_skipped.false)) c.edge_at-edge.ensures.edge
     (λ along. true≢false (sym (c.are_paired_back.ensures.1 along.1) ∙ c.if-not-are_paired_back.true)) in
     ((λ f. absurd (true≢false (sym f))), (λ h. absurd (none h)))
 
-pub are_paired-returns : goal.are_paired-returns
-are_paired-returns t c =
-    let paired = paired_by_edges c.args.graph.now c.args.pattern.now c.args.depth (c.args.depth - 1) c.args.s c.args.u c.args.w (omega (arith, c.if-depth-eq0.false)) (c.are_here.ensures.0 c.if-not-are_here.false)
-    (λ k e lt at. c.loop-place.invariant k e (omega (arith, lt, c.edge_count-place-end.ensures, c.loop-place-test.false)) at) in
+pub are_paired_along-returns : goal.are_paired_along-returns
+are_paired_along-returns t c =
+    let paired = paired_by_edges c.args.graph.now c.args.pattern.now c.args.skipped c.args.depth (c.args.depth - 1) c.args.s c.args.u c.args.w (omega (arith, c.if-depth-eq0.false)) c.requires.here
+    (λ k e lt asked at. c.loop-place.invariant k e (omega (arith, lt, c.edge_count-place-end.ensures, c.loop-place-test.false)) asked at) in
     ((λ yes. paired), (λ h. refl))
 
 pub has_partner_by-loop-l-preserved-then-holders-ws : goal.has_partner_by-loop-l-preserved-then-holders-ws
@@ -63,59 +69,83 @@ has_partner_by-returns t c =
     let ls = c.outgoing-l-items.result.now in (
       (λ f. absurd (true≢false (sym f))),
       (λ h.
-          let s = shares_value c.args.graph.now c.args.pattern.now c.args.depth (c.args.depth - 1) c.args.s c.args.u h.right (omega (arith, c.requires.depth)) c.args.edge c.requires.edge h.paired in
+          let s = shares_value c.args.graph.now c.args.pattern.now c.args.skipped c.args.depth (c.args.depth - 1) c.args.s c.args.u h.right (omega (arith, c.requires.depth)) c.args.edge c.requires.edge h.paired in
           absurd (c.loop-l.invariant h.right s.0 h.in_right h.paired s.2 (rw (take_all c.loop-l.l-index ls c.loop-l-test.false) ((c.outgoing-l-items.ensures.exact s.0).1 s.1)))),
     )
 
 pub have_any_paired-returns-then-not-has_alone : goal.have_any_paired-returns-then-not-has_alone
 have_any_paired-returns-then-not-has_alone t c = (
   (λ f. absurd (true≢false (sym f))),
-  (λ h. absurd (true≢false (sym (c.has_alone.ensures.1 (record { number = h.right; in_list = h.in_right; paired = right_alone c.args.graph.now c.args.pattern.now c.args.depth c.args.s h.left h.right h.paired })) ∙ c.if-not-has_alone.true))),
+  (λ h. absurd (true≢false (sym (c.has_alone.ensures.1 (record { number = h.right; in_list = h.in_right; paired = right_alone c.args.graph.now c.args.pattern.now c.args.skipped c.args.depth c.args.s h.left h.right h.paired })) ∙ c.if-not-has_alone.true))),
 )
 
 pub have_any_paired-loop-u-preserved-then-not-is_alone : goal.have_any_paired-loop-u-preserved-then-not-is_alone
 have_any_paired-loop-u-preserved-then-not-is_alone t c = λ h.
-    let P = λ (u : ℕ). ArePaired c.args.graph.now c.args.pattern.now c.args.depth c.args.s u u in
+    let P = λ (u : ℕ). ArePairedExcept c.args.graph.now c.args.pattern.now c.args.skipped c.args.depth c.args.s u u in
     elim (contains_more c.args.us.now c.loop-u.u-index h.left c.loop-u-test.true h.in_left) [
       | inl old ↦ c.loop-u.invariant (record { left = h.left; right = h.right; in_left = old; in_right = h.in_right; paired = h.paired })
-      | inr same ↦ true≢false (sym (c.is_alone.ensures.1 (subst P (sym same) (left_alone c.args.graph.now c.args.pattern.now c.args.depth c.args.s h.left h.right h.paired))) ∙ c.if-not-is_alone.true)
+      | inr same ↦ true≢false (sym (c.is_alone.ensures.1 (subst P (sym same) (left_alone c.args.graph.now c.args.pattern.now c.args.skipped c.args.depth c.args.s h.left h.right h.paired))) ∙ c.if-not-is_alone.true)
     ]
 
 pub have_any_paired-loop-u-preserved : goal.have_any_paired-loop-u-preserved
 have_any_paired-loop-u-preserved t c = λ h.
-    let P = λ (u : ℕ). ArePaired c.args.graph.now c.args.pattern.now c.args.depth c.args.s u h.right in
+    let P = λ (u : ℕ). ArePairedExcept c.args.graph.now c.args.pattern.now c.args.skipped c.args.depth c.args.s u h.right in
     elim (contains_more c.args.us.now c.loop-u.u-index h.left c.loop-u-test.true h.in_left) [
       | inl old ↦ c.loop-u.invariant (record { left = h.left; right = h.right; in_left = old; in_right = h.in_right; paired = h.paired })
       | inr same ↦ true≢false (sym (c.has_partner.ensures.1 (record { right = h.right; in_right = h.in_right; paired = subst P (sym same) h.paired })) ∙ c.if-has_partner.false)
     ]
 
+pub have_few_paired-loop-u-preserved : goal.have_few_paired-loop-u-preserved
+have_few_paired-loop-u-preserved t c = λ h.
+    let P = λ (u : ℕ). ArePairedExcept c.args.graph.now c.args.pattern.now c.args.skipped c.args.depth c.args.s u h.right in
+    elim (contains_more c.args.us.now c.loop-u.u-index h.left c.loop-u-test.true h.in_left) [
+      | inl old ↦ c.loop-u.invariant (record { left = h.left; right = h.right; in_left = old; in_right = h.in_right; paired = h.paired })
+      | inr same ↦ true≢false (sym (c.has_partner_in.ensures.1 (record { right = h.right; in_right = h.in_right; paired = subst P (sym same) h.paired })) ∙ c.if-has_partner_in.false)
+    ]
+
+pub are_paired_along-returns-then-depth-eq0 : goal.are_paired_along-returns-then-depth-eq0
+are_paired_along-returns-then-depth-eq0 t c = (
+  (λ yes. paired_at_once c.args.graph.now c.args.pattern.now c.args.skipped c.args.depth c.args.s c.args.u c.args.w c.if-depth-eq0.true c.requires.here),
+  (λ h. refl),
+)
+
 pub have_paired-returns-in-Value : goal.have_paired-returns-in-Value
 have_paired-returns-in-Value t c =
     let G = c.args.graph.now in
     let Q = c.args.pattern.now in
+    let j = c.args.skipped in
     let d = c.args.depth in
     let s = c.args.s in
     let at : slice_get Q.slots s ≡ Some Value = c.slot_at.ensures ∙ ap (λ (x : Slot). Some x) c.in-Value.is in (
       (λ y. let m = c.have_common.ensures.0 y in record { left = m.number; right = m.number; in_left = m.in_left; in_right = m.in_right; paired = m.paired }),
       (λ h.
-          let same = same_value G Q d s h.left h.right at h.paired in
-          c.have_common.ensures.1 (record { number = h.left; in_left = h.in_left; in_right = subst (λ n. Contains c.args.ws.now n) (sym same) h.in_right; paired = left_alone G Q d s h.left h.right h.paired })),
+          let same = same_value G Q j d s h.left h.right at h.paired in
+          c.have_common.ensures.1 (record { number = h.left; in_left = h.in_left; in_right = subst (λ n. Contains c.args.ws.now n) (sym same) h.in_right; paired = left_alone G Q j d s h.left h.right h.paired })),
     )
 
 pub have_paired-returns-in-Fixed : goal.have_paired-returns-in-Fixed
 have_paired-returns-in-Fixed t c =
     let G = c.args.graph.now in
     let Q = c.args.pattern.now in
+    let j = c.args.skipped in
     let d = c.args.depth in
     let s = c.args.s in
     let k = c.in-Fixed.c in
     let at : slice_get Q.slots s ≡ Some (Fixed k) = c.slot_at.ensures ∙ ap (λ (x : Slot). Some x) c.in-Fixed.is in (
       (λ y. let m = c.have_constant.ensures.0 y in record { left = k; right = k; in_left = m.0; in_right = m.1; paired = m.2 }),
       (λ h.
-          let same = same_constant G Q d s h.left h.right k at h.paired in
+          let same = same_constant G Q j d s h.left h.right k at h.paired in
           c.have_constant.ensures.1 (
             subst (λ n. Contains c.args.us.now n) same.0 h.in_left,
             subst (λ n. Contains c.args.ws.now n) same.1 h.in_right,
-            subst (λ n. ArePaired G Q d s n n) same.0 (left_alone G Q d s h.left h.right h.paired),
+            subst (λ n. ArePairedExcept G Q j d s n n) same.0 (left_alone G Q j d s h.left h.right h.paired),
           )),
     )
+
+pub has_partner_among-loop-w-preserved : goal.has_partner_among-loop-w-preserved
+has_partner_among-loop-w-preserved t c = λ h.
+    let P = λ (w : ℕ). ArePairedExcept c.args.graph.now c.args.pattern.now c.args.skipped c.args.depth c.args.s c.args.u w in
+    elim (contains_more c.args.names.now c.loop-w.w-index h.right c.loop-w-test.true h.in_first) [
+      | inl old ↦ c.loop-w.invariant (record { right = h.right; in_first = old; in_second = h.in_second; paired = h.paired })
+      | inr same ↦ true≢false (sym (c.are_paired.ensures.1 (subst P (sym same) h.paired)) ∙ c.if-are_paired.false)
+    ]
