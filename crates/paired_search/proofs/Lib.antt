@@ -1,4 +1,5 @@
 mod BlockLaws
+mod Keys
 mod Labels
 mod Moves
 mod Names

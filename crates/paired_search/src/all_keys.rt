@@ -1,7 +1,8 @@
 //! The search over all keys, and the search for one of them.
 
-ghost use Rattle.std.specs.Prelude.{◌≡◌, ◌<◌, ◌≤◌, ◌^◌, [], ℕ, List, IsTrue, IsFalse, Some, IfSome, IfNone, length, slice_get, slice_index};
+ghost use Rattle.std.specs.Prelude.{◌≡◌, ◌<◌, ◌≤◌, ◌^◌, ◌↔◌, [], ℕ, List, IsTrue, IsFalse, Some, IfSome, IfNone, length, slice_get, slice_index};
 ghost use Rattle.chase_laws.specs.Shape.{Shape};
+ghost use Rattle.chase_laws.specs.Graph.{HasType};
 ghost use Rattle.chase_laws.specs.Valuation.{IsMatch, Matches};
 ghost use Rattle.key_plan.specs.Route.{IsPlanOf};
 ghost use Rattle.paired_search.specs.Part.{IsPlaced, IsReady};
@@ -101,9 +102,17 @@ fn search_key<S: Sameness>(
     None
 }
 
+/// Whether two names have a type.
+fn have_type(graph: &Graph, t: u32, a: u32, b: u32) -> bool
+    ensures { IsTrue result ↔ (HasType graph.now a t × HasType graph.now b t) }
+{
+    graph.has_type(a, t) && graph.has_type(b, t)
+}
+
 /// Looks for a key with two valuations at `a` and `b` that coincide up to the names that are the same by the view, and
 /// gives the first key that has some. None comes exactly where no key has any, whatever numbers `a` and `b` are. The
-/// plan at each place has to be that of the pattern there. It takes no memory.
+/// plan at each place has to be that of the pattern there. It takes no memory. Of keys behind one another that designate one
+/// type, the type is tested once where it is missing.
 pub fn search<S: Sameness>(
     graph: &Graph,
     patterns: &[Pattern],
@@ -122,9 +131,18 @@ pub fn search<S: Sameness>(
 {
     let mut left = Places::empty();
     let mut right = Places::empty();
+    let mut missing = None;
     for key in 0..patterns.len() {
         let pattern = &patterns[key];
         let plan = &plans[key];
+        let designated = pattern.designated_type();
+        if missing == Some(designated) {
+            continue;
+        }
+        if !have_type(graph, designated, a, b) {
+            missing = Some(designated);
+            continue;
+        }
         let found = search_key(graph, pattern, plan, view, a, b, &mut left, &mut right);
         if let Some(found) = found {
             return Some(Finding {

@@ -1,9 +1,9 @@
 -- Key by key.
-use Rattle.std.proofs.Common.{Some, ◌≡◌, slice_get, inl, inr, sym, ◌∙◌, ap, subst, arith}
-use Rattle.std.proofs.lemmas.Bool.{cases_eq}
+use Rattle.std.proofs.Common.{ℕ, Some, ◌≡◌, sym, ◌∙◌, ap, subst, true≢false, arith, rules}
 use Rattle.std.proofs.lemmas.Option.{slice_get-get_or, slice_get_within}
-use Rattle.chase_laws.specs.Shape.{Shape}
+use Rattle.chase_laws.specs.Graph.{HasType}
 use Rattle.chase_laws.specs.Valuation.{IsMatch}
+use Rattle.paired_search.proofs.Keys.{none_more, match_types}
 use Rattle.paired_search.proofs.PartLaws.{some_same}
 use Rattle.paired_search.proofs.all_keys.search.Goals as goal
 
@@ -22,16 +22,49 @@ returns-in-Some-clause-found g c = (
   c.in-Some.ensures.found,
 )
 
+-- a key whose type is known to be missing
+pub loop-key-preserved-then-eq : goal.loop-key-preserved-then-eq
+loop-key-preserved-then-eq g c =
+    let G = c.args.graph.now in
+    let same = g.S.Sameness.are_same c.args.view.now in
+    let Q = c.index-patterns-key.result in
+    let t = c.designated_type-designated.result in
+    let known : c.loop-key.missing ≡ Some t = search rules in
+    record {
+      none = none_more c.args.patterns.now (λ P v w. IsMatch G P same c.args.a c.args.b v w) c.loop-key.key Q
+          (slice_get-get_or c.args.patterns.now c.loop-key.key Q c.loop-key-test.true ∙ ap Some (sym c.index-patterns-key.is))
+          c.loop-key.invariant.none
+          (λ v w m. c.loop-key.invariant.missing t known (match_types G Q same c.args.a c.args.b t v w c.designated_type-designated.ensures m));
+      missing = c.loop-key.invariant.missing;
+      empty_left = c.loop-key.invariant.empty_left;
+      empty_right = c.loop-key.invariant.empty_right;
+    }
+
+-- one whose type is found missing
+pub loop-key-preserved-then-not-have_type : goal.loop-key-preserved-then-not-have_type
+loop-key-preserved-then-not-have_type g c =
+    let G = c.args.graph.now in
+    let same = g.S.Sameness.are_same c.args.view.now in
+    let Q = c.index-patterns-key.result in
+    let t = c.designated_type-designated.result in
+    let have = λ (n : ℕ). HasType G c.args.a n × HasType G c.args.b n in
+    let none = λ (h : have t). true≢false (sym (c.have_type.ensures.1 h) ∙ c.if-not-have_type.true) in
+    record {
+      none = none_more c.args.patterns.now (λ P v w. IsMatch G P same c.args.a c.args.b v w) c.loop-key.key Q
+          (slice_get-get_or c.args.patterns.now c.loop-key.key Q c.loop-key-test.true ∙ ap Some (sym c.index-patterns-key.is))
+          c.loop-key.invariant.none
+          (λ v w m. none (match_types G Q same c.args.a c.args.b t v w c.designated_type-designated.ensures m));
+      missing = λ u e h. none (subst have (sym (some_same t u e)) h);
+      empty_left = c.loop-key.invariant.empty_left;
+      empty_right = c.loop-key.invariant.empty_right;
+    }
+
 pub loop-key-preserved : goal.loop-key-preserved
 loop-key-preserved g c = record {
-  none = λ k Q v w h at x. elim (cases_eq k c.loop-key.key) [
-    | inl e ↦
-        (let here : slice_get c.args.patterns.now c.loop-key.key ≡ Some c.index-patterns-key.result =
-        slice_get-get_or c.args.patterns.now c.loop-key.key c.index-patterns-key.result c.loop-key-test.true ∙ ap Some (sym c.index-patterns-key.is) in
-        let same : Q ≡ c.index-patterns-key.result = some_same Q c.index-patterns-key.result (sym at ∙ ap (slice_get c.args.patterns.now) e ∙ here) in
-        c.in_default.ensures.none v w (subst (λ (P : Shape). IsMatch c.args.graph.now P (g.S.Sameness.are_same c.args.view.now) c.args.a c.args.b v w) same x))
-    | inr ne ↦ c.loop-key.invariant.none k Q v w (omega arith) at x
-  ];
+  none = none_more c.args.patterns.now (λ Q v w. IsMatch c.args.graph.now Q (g.S.Sameness.are_same c.args.view.now) c.args.a c.args.b v w) c.loop-key.key c.index-patterns-key.result
+      (slice_get-get_or c.args.patterns.now c.loop-key.key c.index-patterns-key.result c.loop-key-test.true ∙ ap Some (sym c.index-patterns-key.is))
+      c.loop-key.invariant.none c.in_default.ensures.none;
+  missing = c.loop-key.invariant.missing;
   empty_left = c.in_default.ensures.kept.0;
   empty_right = c.in_default.ensures.kept.1;
 }
