@@ -1,14 +1,16 @@
 //! Runs a chase to its end with a crew.
 
-ghost use Rattle.std.specs.Prelude.{◌≡◌, ◌++◌, List, All, Contains};
+ghost use Rattle.std.specs.Prelude.{◌≡◌, ◌<◌, ◌≤◌, ◌++◌, List, All, Contains, IfOk};
 ghost use Rattle.chase_laws.specs.declared.entry.Entry.{Entry};
 ghost use Rattle.match_run.specs.Classes.{AreClasses, IsFinishedJournal};
 
-use crate::alone::chase_alone;
-use chase_core::{Matched, Woken};
+use chase_core::{Chase, Matched, Setup, Woken};
+use chase_laws::core_law::law_core;
+use gk_base::NoMemory;
+use std::alloc::Global;
 use std::sync::Wait;
 use std::thread::Threads;
-use steal_pool::{Crew, Gate, run_crew};
+use steal_pool::{Crew, Gate, muster, run_crew};
 
 /// Runs a crew, and then its chase to the end: the pairs that the workers still had are given back, and those that are
 /// Ready are searched on this thread. The labels are equal exactly where two names are the same, and the journal is a
@@ -26,7 +28,32 @@ pub fn chase<G: Gate, R: Threads + Wait + Sync>(
     ensures woken_room { woken.new.room ≡ woken.old.room }
     ensures begins { (more : List Entry) × (result.journal.items ≡ crew.entry.journal ++ more) }
 {
+    law_core();
     let mut running = run_crew(rt, crew, gate);
     running.recall();
-    chase_alone(running, woken)
+    running.drain(woken);
+    running.finish()
+}
+
+/// Runs a new chase over a setup to its end, with a crew of as many workers as there is memory for: at most so many, 1
+/// to 64, and no more than there are pairs, but at least one. The labels are equal exactly where two names are the same,
+/// and the journal is a lean derivation that no step goes beyond, over the pairs of the setup. Each worker passes the
+/// gate before each search. Only want of memory stops it, before any search.
+pub fn chase_setup<R: Threads + Wait + Sync, G: Gate>(
+    rt: &R,
+    alloc: Global,
+    setup: &Setup,
+    workers: u32,
+    gate: &G,
+) -> Result<Matched, NoMemory>
+    requires workers { (0 < workers) × (workers ≤ 64) }
+    ensures classes { IfOk result (λ m. AreClasses setup.now.task.graph setup.now.task.patterns m.labels.items) }
+    ensures journal { IfOk result (λ m. IsFinishedJournal setup.now.task.graph setup.now.task.patterns m.journal.items) }
+    ensures ends { IfOk result (λ m. All (λ e. Contains setup.now.task.pairs (e.a, e.b)) m.journal.items) }
+{
+    let pairs = setup.pairs().len() as u32;
+    let mut woken = Woken::new(alloc, 0)?;
+    let made = Chase::new(alloc, setup)?;
+    let crew = muster(alloc, made, workers.min(pairs.max(1)))?;
+    Ok(chase(rt, crew, &mut woken, gate))
 }

@@ -1,8 +1,16 @@
-use Rattle.std.proofs.Common.{All, Contains, subst, ◌∙◌}
-use Rattle.chase_core.specs.Setup.{Preparation}
+-- The labels and the journal are those of a chase at its end.
+use Rattle.std.proofs.Common.{◌∙◌}
+use Rattle.match_run.proofs.Finished.{classes, journal, ends_are_pairs}
 use Rattle.match_run.proofs.together.chase.Goals as goal
+
+pub returns-clause-classes : goal.returns-clause-classes
+returns-clause-classes g c =
+    classes c.law_core.ensures.finished _ c.finish.ensures.running c.drain.ensures.finished c.args.crew.setup (c.drain.ensures.setup ∙ (c.recall.ensures.setup ∙ c.run_crew-running.ensures.setup)) c.finish.result.labels.items c.finish.ensures.labels
+
+pub returns-clause-journal : goal.returns-clause-journal
+returns-clause-journal g c =
+    journal c.law_core.ensures.finished _ c.finish.ensures.running c.drain.ensures.finished c.args.crew.setup (c.drain.ensures.setup ∙ (c.recall.ensures.setup ∙ c.run_crew-running.ensures.setup)) c.finish.result.journal.items c.finish.ensures.journal
 
 pub returns-clause-ends : goal.returns-clause-ends
 returns-clause-ends g c =
-    subst (λ (S : Preparation). All (λ e. Contains S.task.pairs (e.a, e.b)) c.chase_alone.result.journal.items)
-    (c.recall.ensures.setup ∙ c.run_crew-running.ensures.setup) c.chase_alone.ensures.ends
+    ends_are_pairs c.law_core.ensures.finished _ c.finish.ensures.running c.drain.ensures.finished c.args.crew.setup (c.drain.ensures.setup ∙ (c.recall.ensures.setup ∙ c.run_crew-running.ensures.setup)) c.finish.result.journal.items c.finish.ensures.journal
