@@ -1,5 +1,6 @@
 -- A pair taken, searched and settled, over and over.
 use Rattle.std.proofs.Common.{List, [], ◌∷◌, ◌++◌, ℕ, Option, Some, None, Contains, slice_get, slice_set, get_or, length, ◌≡◌, ◌≢◌, ◌<◌, ◌≤◌, ◌+◌, ◌*◌, ◌-◌, ◌⊎◌, inl, inr, refl, sym, ◌∙◌, ap, subst, arith, append-nil, length-append, length-set, not, ◌==◌, eqb-true}
+use Rattle.std.specs.Prelude.{IfSome, MatchOption}
 use Rattle.std.proofs.lemmas.Bool.{cases_eq}
 use Rattle.std.proofs.lemmas.Bool.Decides.{Decides-eqb}
 use Rattle.std.proofs.lemmas.Option.{slice_get_within, slice_get-get_or, same_Some}
@@ -21,7 +22,7 @@ use Rattle.chase_core.specs.declared.ticket.Settled.TheVariants as settled
 use Rattle.chase_core.specs.Setup.{Preparation}
 use Rattle.chase_core.specs.Table.{IsReadyList}
 use Rattle.chase_core.specs.Running.{Running, state_in, IsRunning}
-use Rattle.chase_core.specs.Taking.{TakesFirst}
+use Rattle.chase_core.specs.Taking.{TakesFirst, TakesHint, pair_of}
 use Rattle.chase_core.specs.Settling.{entry_of, Settles}
 use Rattle.std.proofs.lemmas.List.{length_push}
 use Rattle.class_book.specs.Classes.{Classes}
@@ -59,12 +60,18 @@ ready_short states ready r =
 less_by_one : (p j k r s : ℕ) → j < p → k ≡ j + 1 → s ≤ p → (p - k) * (p + 1) + s < (p - j) * (p + 1) + r
 less_by_one p j k r s lt e le = let d : p - j ≡ (p - k) + 1 = omega arith in rw d (omega arith)
 
--- the ends of the pair that was handed out are not joined
-pub taken_apart : (old mid : Running) (t : Ticket) → mid.book ≡ old.book → TakesFirst old mid (Some t.pair) → PairAt old.setup.task t.pair t.a t.b → ¬ (Joined mid.book.journal t.a t.b)
-taken_apart old mid t book takes at =
-    let k = takes.event.1.1 in
+event_apart : (old mid : Running) (t : Ticket) (passed : List ℕ) → mid.book ≡ old.book → Happens old.setup.task (state_in old) (Take passed (Some t.pair)) (state_in mid) → PairAt old.setup.task t.pair t.a t.b → ¬ (Joined mid.book.journal t.a t.b)
+event_apart old mid t passed book event at =
+    let k = event.1.1 in
     let e = same_parts (slice_get old.setup.task.pairs t.pair) t.a t.b k.0 k.1 at k.2 in
     λ j. k.3 (subst (λ n. Joined old.book.journal n k.1) e.0 (subst (Joined old.book.journal t.a) e.1 (subst (λ (B : Classes). Joined B.journal t.a t.b) book j)))
+
+-- the ends of a pair that was handed out are not joined
+pub all_apart : (old mid : Running) (hint : Option ℕ) (o : Option Ticket) → mid.book ≡ old.book → MatchOption hint (TakesFirst old mid (pair_of o)) (λ p. TakesHint old mid p (pair_of o))
+    → IfSome o (λ t. PairAt old.setup.task t.pair t.a t.b) → IfSome o (λ t. ¬ (Joined mid.book.journal t.a t.b))
+all_apart old mid hint None book takes at = tt
+all_apart old mid None (Some t) book takes at = event_apart old mid t takes.passed book takes.event at
+all_apart old mid (Some p) (Some t) book takes at = event_apart old mid t takes.passed book takes.event at
 
 module _ (law : CoreLaw) (old mid : Running) (t : Ticket) (running : IsRunning old) (setup : mid.setup ≡ old.setup) (book : mid.book ≡ old.book) (takes : TakesFirst old mid (Some t.pair)) where
   mid_states : mid.table.states ≡ slice_set (set_each old.table.states takes.passed state.Joined) t.pair state.Flying

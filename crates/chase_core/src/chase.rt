@@ -18,7 +18,7 @@ ghost use Rattle.chase_core.specs.Present.{SettlesPresent};
 use crate::recall::recall_parts;
 use crate::settle::{settle_parts, settle_present};
 use crate::table::PairTable;
-use crate::take::{take_first_parts, take_parts};
+use crate::take::{take_parts, take_unseen_parts};
 use crate::{Matched, Outcome, Settled, Setup, Ticket, Woken};
 use chase_laws::PairState;
 use chase_laws::core_law::law_core;
@@ -185,31 +185,36 @@ impl<'a> Chase<'a> {
     {
         law_core();
         self.holds();
-        while let Some(ticket) = self.take_first() {
+        while let Some(ticket) = self.take_unseen(None) {
             self.settle_at_once(ticket, woken);
             self.holds();
         }
         self.holds();
     }
 
-    /// Hands out what `take` does without a hint, and shows nothing.
-    fn take_first(&mut self) -> Option<Ticket>
-        ensures takes { TakesFirst self.old self.new (pair_of result) }
+    /// Hands out the pair that `take` does, and shows nothing: for one who has the chase alone, and searches by the present
+    /// labels.
+    pub fn take_unseen(&mut self, hint: Option<u32>) -> Option<Ticket>
+        requires hint { ForSome hint (λ p. p < length self.old.setup.task.pairs) }
+        ensures takes { MatchOption hint (TakesFirst self.old self.new (pair_of result)) (λ p. TakesHint self.old self.new p (pair_of result)) }
         ensures ends { IfSome result (λ t. PairAt self.old.setup.task t.pair t.a t.b) }
+        ensures apart { IfSome result (λ t. ¬ (Joined self.new.book.journal t.a t.b)) }
         ensures setup { self.new.setup ≡ self.old.setup }
         ensures book { self.new.book ≡ self.old.book }
     {
         law_core();
-        take_first_parts(self.setup, &self.book, &mut self.table)
+        take_unseen_parts(self.setup, &self.book, &mut self.table, hint)
     }
 
     /// Searches for a pair whose ends are not joined by the present labels, and settles it.
-    fn settle_at_once(&mut self, ticket: Ticket, woken: &mut Woken) -> Settled
+    pub fn settle_at_once(&mut self, ticket: Ticket, woken: &mut Woken) -> Settled
         requires ends { PairAt self.old.setup.task ticket.pair ticket.a ticket.b }
         requires apart { ¬ (Joined self.old.book.journal ticket.a ticket.b) }
         ensures settles { SettlesPresent self.old ticket result self.new }
-        ensures setup { self.new.setup ≡ self.old.setup }
+        ensures woken { Notes self.old ticket.pair result self.new woken.old.room woken.new.list }
         ensures woken_room { woken.new.room ≡ woken.old.room }
+        ensures setup { self.new.setup ≡ self.old.setup }
+        ensures grows { (more : List Entry) × (self.new.book.journal ≡ self.old.book.journal ++ more) }
     {
         law_core();
         settle_present(

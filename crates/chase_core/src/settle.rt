@@ -179,6 +179,7 @@ pub fn settle_present(
     requires room { book.old.room ≡ journal_room setup.now.task }
     requires aside { length setup.now.task.pairs ≤ vec_capacity aside.old }
     ensures settles { SettlesPresent (running_with setup.now book.old table.old) ticket result (running_with setup.now book.new table.new) }
+    ensures woken { Notes (running_with setup.now book.old table.old) ticket.pair result (running_with setup.now book.new table.new) woken.old.room woken.new.list }
     ensures room { book.new.room ≡ book.old.room }
     ensures aside { vec_capacity aside.new ≡ vec_capacity aside.old }
     ensures woken_room { woken.new.room ≡ woken.old.room }

@@ -123,15 +123,26 @@ pub fn take_parts(
     Some(hand_out(setup, book, table, pair, view))
 }
 
-/// Takes a pair as `take_parts` does without a hint, and shows nothing.
-pub fn take_first_parts(setup: &Setup, book: &Book, table: &mut PairTable) -> Option<Ticket>
+/// Takes a pair as `take_parts` does, and shows nothing.
+pub fn take_unseen_parts(
+    setup: &Setup,
+    book: &Book,
+    table: &mut PairTable,
+    hint: Option<u32>,
+) -> Option<Ticket>
     requires labels { length book.now.labels ≡ name_count setup.now.task }
     requires states { length table.old.states ≡ length setup.now.task.pairs }
-    ensures takes { TakesFirst (running_with setup.now book.now table.old) (running_with setup.now book.now table.new) (pair_of result) }
+    requires hint { ForSome hint (λ p. p < length setup.now.task.pairs) }
+    ensures takes { let old = running_with setup.now book.now table.old in let new = running_with setup.now book.now table.new in
+        MatchOption hint (TakesFirst old new (pair_of result)) (λ p. TakesHint old new p (pair_of result)) }
     ensures ends { IfSome result (λ t. PairAt setup.now.task t.pair t.a t.b) }
 {
     table.listed();
-    let pair = pass_over(setup, book, table)?;
+    let next = match hint {
+        None => pass_over(setup, book, table),
+        Some(pair) => pass_hint(setup, book, table, pair),
+    };
+    let pair = next?;
     let ticket = ticket_of(setup, pair);
     table.mark(pair, PairState::Flying);
     Some(ticket)

@@ -3,7 +3,7 @@ use Rattle.std.proofs.Common.{List, ◌++◌, [], sym, ◌∙◌, ap, refl, subs
 use Rattle.chase_laws.specs.Core.{Event, Run, PairAt}
 use Rattle.chase_core.specs.Setup.{Preparation}
 use Rattle.chase_core.specs.Running.{state_in}
-use Rattle.chase_core.proofs.Draining.{CoreLaw, taken_apart, landed, goes_on, less, two_more, finished, one_more}
+use Rattle.chase_core.proofs.Draining.{CoreLaw, landed, goes_on, less, two_more, finished, one_more}
 use Rattle.chase_core.proofs.chase.Chase.drain.Goals as goal
 
 pub loop-ticket-init : goal.loop-ticket-init
@@ -21,17 +21,12 @@ settle_at_once-requires-clause-ends c =
     let e = c.in-Some.ensures in
     subst (λ (S : Preparation). PairAt S.task c.in-Some.ticket.pair c.in-Some.ticket.a c.in-Some.ticket.b) (sym e.setup) e.ends
 
-pub settle_at_once-requires-clause-apart : goal.settle_at_once-requires-clause-apart
-settle_at_once-requires-clause-apart c =
-    let e = c.in-Some.ensures in
-    taken_apart c.loop-ticket.self c.take_first.new.self c.in-Some.ticket e.book e.takes e.ends
-
 pub loop-ticket-smaller : goal.loop-ticket-smaller
 loop-ticket-smaller c =
     let law : CoreLaw = record { event = c.law_core.ensures.event; room = c.law_core.ensures.room } in
     let e = c.in-Some.ensures in
     let s = c.settle_at_once.ensures.settles in
-    less law c.loop-ticket.self c.take_first.new.self c.in-Some.ticket c.loop-ticket.invariant.running e.setup e.book e.takes c.settle_at_once.new.self s.view s.found c.settle_at_once.result
+    less law c.loop-ticket.self c.take_unseen.new.self c.in-Some.ticket c.loop-ticket.invariant.running e.setup e.book e.takes c.settle_at_once.new.self s.view s.found c.settle_at_once.result
     c.settle_at_once.ensures.setup c.holds-in-Some.ensures.running s.present s.settles
 
 pub loop-ticket-preserved : goal.loop-ticket-preserved
@@ -40,7 +35,7 @@ loop-ticket-preserved c =
     let e = c.in-Some.ensures in
     let v = c.loop-ticket.invariant in
     let old = c.loop-ticket.self in
-    let mid = c.take_first.new.self in
+    let mid = c.take_unseen.new.self in
     let new = c.settle_at_once.new.self in
     let s = c.settle_at_once.ensures.settles in
     let answer = c.settle_at_once.result in
@@ -58,11 +53,11 @@ loop-ticket-preserved c =
     }
 
 pub returns-clause-finished : goal.returns-clause-finished
-returns-clause-finished c = finished c.loop-ticket.self c.take_first.new.self c.holds-2.ensures.running c.loop-ticket.invariant.landed c.in_default.ensures.takes
+returns-clause-finished c = finished c.loop-ticket.self c.take_unseen.new.self c.holds-2.ensures.running c.loop-ticket.invariant.landed c.in_default.ensures.takes
 
 pub returns-clause-run : goal.returns-clause-run
 returns-clause-run c =
     let v = c.loop-ticket.invariant in
-    subst (λ (S : Preparation). (events : List Event) × Run S.task (state_in c.args.self.now) events (state_in c.take_first.new.self)) v.setup
-    (one_more c.loop-ticket.self c.take_first.new.self c.holds-2.ensures.running v.landed c.in_default.ensures.takes (state_in c.args.self.now)
+    subst (λ (S : Preparation). (events : List Event) × Run S.task (state_in c.args.self.now) events (state_in c.take_unseen.new.self)) v.setup
+    (one_more c.loop-ticket.self c.take_unseen.new.self c.holds-2.ensures.running v.landed c.in_default.ensures.takes (state_in c.args.self.now)
     (subst (λ (S : Preparation). (events : List Event) × Run S.task (state_in c.args.self.now) events (state_in c.loop-ticket.self)) (sym v.setup) v.run))
