@@ -9,7 +9,7 @@ use gk_base::NoMemory;
 use std::alloc::Global;
 
 // How many hints a deque has room for at first, and how many it is dealt at most.
-const DEALT: u32 = 256;
+pub const DEALT: u32 = 256;
 
 /// An empty deque for each worker.
 pub fn deques(alloc: Global, workers: u32, count: u32) -> Result<Vec<HintDeque>, NoMemory>

@@ -13,6 +13,7 @@
 //! - `worker`: what a worker does until it ends
 //! - `turns`: a turn of a worker
 //! - `batch`: what a worker does with the chase in a turn
+//! - `alone`: what a worker does that has a chase for itself
 //! - `hunt`: where a worker looks for a hint
 //! - `crew_member`: a worker with its pass of the lock
 //! - `workspace`: what a worker has besides
@@ -22,6 +23,7 @@
 //! - `hint_rule`: the rule of such a deque
 #![tactic(auto)]
 
+mod alone;
 mod batch;
 mod crew;
 mod crew_member;

@@ -2,9 +2,12 @@
 
 ghost use Rattle.std.specs.Prelude.{◌≡◌, ◌++◌, ◌<◌, ◌^◌, ℕ, List, All, length};
 ghost use Rattle.chase_laws.specs.declared.entry.Entry.{Entry};
+ghost use Rattle.chase_laws.specs.Core.{PairAt};
+ghost use Rattle.chase_laws.specs.Joined.{Joined};
 ghost use Rattle.chase_core.specs.Running.{IsRunning};
 ghost use Rattle.chase_core.specs.Holding.{IsHeld};
 ghost use Rattle.chase_core.specs.Settling.{IsFoundBy, Settles};
+ghost use Rattle.chase_core.specs.Present.{SettlesPresent};
 
 use chase_core::held_law::law_held;
 use chase_core::{Chase, Outcome, Settled, Setup, Ticket, Woken};
@@ -61,5 +64,18 @@ impl<'a> Shared<'a> {
         law_held();
         self.holds();
         self.chase.settle(ticket, view, outcome, woken)
+    }
+
+    /// Searches by the present labels for a pair that was taken just now, and settles it.
+    pub(crate) fn settle_at_once(&mut self, ticket: Ticket, woken: &mut Woken) -> Settled
+        requires ends { PairAt self.old.chase.setup.task ticket.pair ticket.a ticket.b }
+        requires apart { ¬ (Joined self.old.chase.book.journal ticket.a ticket.b) }
+        ensures settles { SettlesPresent self.old.chase ticket result self.new.chase }
+        ensures setup { self.new.chase.setup ≡ self.old.chase.setup }
+        ensures grows { (more : List Entry) × (self.new.chase.book.journal ≡ self.old.chase.book.journal ++ more) }
+        ensures woken { All (λ p. p < length self.old.chase.setup.task.pairs) woken.new.list }
+    {
+        self.holds();
+        self.chase.settle_at_once(ticket, woken)
     }
 }

@@ -33,7 +33,7 @@ pub trait Work: Journaled {
         ensures { IsCrewMember pairs widest lock.now thieves.now member.new };
 }
 
-/// Each worker in a thread of its own. All have ended when it returns.
+/// Each worker in a thread of its own, where there are several. All have ended when it returns.
 pub fn work_all<T: Work + Send, G: Gate, R: Threads + Wait + Sync>(
     rt: &R,
     lock: &TurnLock<T>,
@@ -45,6 +45,9 @@ pub fn work_all<T: Work + Send, G: Gate, R: Threads + Wait + Sync>(
     requires { All (IsCrewMember T.pairs T.widest lock.now thieves.now) members.old }
     ensures { All (IsCrewMember T.pairs T.widest lock.now thieves.now) members.new }
 {
+    if members.len() < 2 {
+        return;
+    }
     thread::for_each_mut(
         rt,
         members,
