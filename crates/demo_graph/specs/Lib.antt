@@ -1,0 +1,4 @@
+pub mod DemoTexts
+pub mod Counts
+pub mod DemoLine
+pub mod Spans
