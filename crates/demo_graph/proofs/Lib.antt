@@ -1,3 +1,4 @@
+pub mod CallerLemmas
 mod LineLemmas
 mod SpelledLemmas
 mod PlaceLemmas
