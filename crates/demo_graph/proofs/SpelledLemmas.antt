@@ -43,17 +43,20 @@ one_number word number n small parses e =
     cc
 
 -- what parses and begins with neither a sign nor a zero spells the number
-pub spelled : (word : List ℕ) (first number : ℕ) → ParsesUnsigned {E = ℕ} 32 10 word (Ok number) → slice_get word 0 ≡ Some first → (first ≡ 43 → ⊥) → (first ≡ 48 → ⊥)
+pub spelled : (word : List ℕ) (first number : ℕ) → ParsesUnsigned {E = ℕ} 32 10 word (Ok number) → slice_get word 0 ≡ Some first → 49 ≤ first
     → (1 ≤ number) × (word ≡ decimal number)
-spelled word first number parses begins no_sign no_zero =
+spelled word first number parses begins high =
     let read : get_or word 0 0 ≡ first = get_or_from_slice_get word 0 first 0 begins in
-    let own_value = parse_plain own {E = ℕ} 32 word (Ok number) parses (λ e. no_sign (sym read ∙ e)) in
+    let own_value = parse_plain own {E = ℕ} 32 word (Ok number) parses (λ e. low 43 (sym read ∙ e) (omega arith)) in
     let is : number ≡ digits_value 10 word = own_value.1 in
-    let back = decimal-digits_value own word own_value.0.0 own_value.0.1 (λ e. absurd (no_zero (sym read ∙ e))) (omega (arith, own_value.0.2)) in
+    let back = decimal-digits_value own word own_value.0.0 own_value.0.1 (λ e. absurd (low 48 (sym read ∙ e) (omega arith))) (omega (arith, own_value.0.2)) in
     let words : word ≡ decimal number = sym back ∙ ap decimal (sym is) in
     (from_one number (omega (arith, own_value.0.2)) words, words)
   where
+    low : (byte : ℕ) → first ≡ byte → byte < 49 → ⊥
+    low byte e below = omega arith
+
     from_one : (m : ℕ) → m < 2 ^ 32 → word ≡ decimal m → 1 ≤ m
     from_one zero small e =
-        absurd (no_zero (sym (get_or_from_slice_get word 0 first 0 begins) ∙ ap (λ w. get_or w 0 0) (e ∙ decimal_digit 0 (omega arith))))
+        absurd (low 48 (sym (get_or_from_slice_get word 0 first 0 begins) ∙ ap (λ w. get_or w 0 0) (e ∙ decimal_digit 0 (omega arith))) (omega arith))
     from_one (suc m) small e = omega arith

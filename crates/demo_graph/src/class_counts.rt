@@ -31,8 +31,8 @@ pub fn count_classes(alloc: Global, labels: &[u32]) -> Result<ClassCounts, NoMem
     ensures members { IfOk result (λ counts. IsMemberCount labels.now counts.members) }
 {
     let spans = spans_of(alloc, labels)?;
-    let mut classes = 0;
-    let mut members = 0;
+    let mut classes = 0u32;
+    let mut members = 0u32;
     for (place, label) in labels.iter().enumerate() {
         if let Some(span) = spans.get(label) {
             if span.first < span.last {
