@@ -1,21 +1,24 @@
 use crate::{ClassCounts, count_classes, demo_line, demo_texts, number_of};
 use std::test::Fail;
 
-const GRAPH_OF_ONE: &[u8] = b"<urn:a:0> <http://www.w3.org/1999/02/22-rdf-syntax-ns#type> <urn:T> .\n\
+const GRAPH_OF_ONE: &[u8] =
+    b"<urn:a:0> <http://www.w3.org/1999/02/22-rdf-syntax-ns#type> <urn:T> .\n\
 <urn:b:0> <http://www.w3.org/1999/02/22-rdf-syntax-ns#type> <urn:T> .\n\
 <urn:a:0> <urn:name> \"n0\" .\n\
 <urn:b:0> <urn:name> \"n0\" .\n\
 <urn:a:0> <urn:code> \"c\" .\n\
 <urn:b:0> <urn:code> \"c\" .\n";
 
-const NEXT_OF_TWO: &[u8] = b"<urn:a:1> <http://www.w3.org/1999/02/22-rdf-syntax-ns#type> <urn:T> .\n\
+const NEXT_OF_TWO: &[u8] =
+    b"<urn:a:1> <http://www.w3.org/1999/02/22-rdf-syntax-ns#type> <urn:T> .\n\
 <urn:b:1> <http://www.w3.org/1999/02/22-rdf-syntax-ns#type> <urn:T> .\n\
 <urn:a:1> <urn:name> \"n1\" .\n\
 <urn:b:1> <urn:name> \"n1\" .\n\
 <urn:a:1> <urn:next> <urn:a:0> .\n\
 <urn:b:1> <urn:next> <urn:b:0> .\n";
 
-const KEYS: &[u8] = b"key base <urn:T>\nvalue $n\nvalue $c\n?x <urn:name> $n\n?x <urn:code> $c\nend\n\
+const KEYS: &[u8] =
+    b"key base <urn:T>\nvalue $n\nvalue $c\n?x <urn:name> $n\n?x <urn:code> $c\nend\n\
 key link <urn:T>\nentity ?y <urn:T>\nvalue $n\n?x <urn:name> $n\n?x <urn:next> ?y\nend\n";
 
 #[test]
@@ -44,16 +47,28 @@ fn classes_of_two_or_more_are_counted_with_their_members(rt: HostRuntime) -> Res
     ];
     for (labels, classes, members) in cases.iter() {
         let counts = count_classes(rt.alloc(), labels)?;
-        assert_eq!(rt; counts, ClassCounts { classes: *classes, members: *members });
+        assert_eq!(rt;
+            counts,
+            ClassCounts {
+                classes: *classes,
+                members: *members
+            }
+        );
     }
     Ok(())
 }
 
 #[test]
 fn the_line_has_all_counts(rt: HostRuntime) -> Result<(), Fail> {
-    let counts = ClassCounts { classes: 1000, members: 2000 };
+    let counts = ClassCounts {
+        classes: 1000,
+        members: 2000,
+    };
     let line = demo_line(rt.alloc(), 6000, 1000, counts)?;
-    assert_eq!(rt; line.as_slice(), b"triples 6000 pairs 1000 classes 1000 members 2000\n".as_slice());
+    assert_eq!(rt;
+        line.as_slice(),
+        b"triples 6000 pairs 1000 classes 1000 members 2000\n".as_slice()
+    );
     Ok(())
 }
 
