@@ -7,8 +7,10 @@ use match_run::{classes, prepare};
 use pair_seed::{SeedStop, TooManyPairs};
 use std::alloc::Global;
 use std::process::Abort;
+use std::sync::Wait;
 use std::test::Fail;
 use std::thread::Threads;
+use steal_pool::OpenGate;
 
 /// Whether labels are equal exactly where these numbers are.
 fn are_labels(labels: &[u32], wanted: &[u32]) -> bool {
@@ -25,17 +27,22 @@ fn are_labels(labels: &[u32], wanted: &[u32]) -> bool {
     true
 }
 
-/// Whether the classes of a graph by a case's keys are those of the case.
-fn has_classes<R: Threads + Sync>(
+/// Whether the classes of a graph by a case's keys are those of the case, as one worker and as two find them.
+fn has_classes<R: Threads + Wait + Sync>(
     rt: &R,
     alloc: Global,
     table: &GraphTable<'_>,
     case: &Case,
 ) -> Result<bool, Fail> {
-    let graph = table.build(alloc)?;
-    let keys = patterns_of(alloc, case.keys)?;
-    let labels = classes(rt, alloc, graph, keys, u64::from(case.limit))?;
-    Ok(are_labels(&labels, case.wanted))
+    let limit = u64::from(case.limit);
+    let mut right = true;
+    for workers in 1..3u32 {
+        let graph = table.build(alloc)?;
+        let keys = patterns_of(alloc, case.keys)?;
+        let labels = classes(rt, alloc, graph, keys, limit, workers, &OpenGate)?;
+        right = right && are_labels(&labels, case.wanted);
+    }
+    Ok(right)
 }
 
 /// How many candidate pairs the albums have by all keys, or how many are told where there are too many.

@@ -4,9 +4,9 @@ ghost use Rattle.std.specs.Prelude.{◌<◌, ◌≤◌};
 
 use crate::gates::{empty_meeting, no_counts};
 use crate::graphs::{Kind, prepared};
-use chase_core::{Chase, Setup, Woken};
+use chase_core::{Chase, Matched, Setup, Woken};
 use gk_base::NoMemory;
-use match_run::chase;
+use match_run::{chase, chase_setup};
 use std::alloc::Global;
 use std::process::Abort;
 use std::sync::Wait;
@@ -15,22 +15,64 @@ use std::test::Fail;
 use std::thread::Threads;
 use steal_pool::{Crew, Gate, OpenGate};
 
-/// How many identifications a crew of so many workers comes to.
+/// What a crew of so many workers comes to.
 fn run<G: Gate, R: Threads + Wait + Sync + Abort>(
     rt: &R,
     alloc: Global,
     setup: &Setup,
     workers: u32,
     gate: &G,
-) -> Result<usize, Fail>
+) -> Result<Matched, Fail>
     requires { (0 < workers) × (workers ≤ 64) }
 {
     let mut woken = Woken::new(alloc, 0)?;
     let made = Chase::new(alloc, setup)?;
     match Crew::new(alloc, made, workers) {
-        Ok(crew) => Ok(chase(rt, crew, &mut woken, gate).journal.len()),
+        Ok(crew) => Ok(chase(rt, crew, &mut woken, gate)),
         Err((_, NoMemory)) => panic!(rt; "no memory"),
     }
+}
+
+/// What one thread comes to.
+fn drained(alloc: Global, setup: &Setup) -> Result<Matched, Fail> {
+    let mut woken = Woken::new(alloc, 0)?;
+    let mut alone = Chase::new(alloc, setup)?;
+    // No pair is handed out: for the proof alone.
+    alone.recall();
+    alone.drain(&mut woken);
+    Ok(alone.finish())
+}
+
+/// Whether both make the same names the same.
+fn are_alike(labels: &[u32], others: &[u32]) -> bool {
+    if labels.len() != others.len() {
+        return false;
+    }
+    for (label, other) in labels.iter().zip(others) {
+        for (second, other_second) in labels.iter().zip(others) {
+            if (label == second) != (other == other_second) {
+                return false;
+            }
+        }
+    }
+    true
+}
+
+#[test]
+fn crews_find_what_one_thread_finds(rt: HostRuntime) -> Result<(), Fail> {
+    let alloc = rt.alloc();
+    for (kind, count) in [(Kind::Chain, 2), (Kind::Alone, 2), (Kind::Chain, 60)] {
+        let prepared = prepared(&rt, alloc, kind, count)?;
+        let alone = drained(alloc, &prepared.setup)?;
+        for workers in [1, 2, 64] {
+            let crews = run(&rt, alloc, &prepared.setup, workers, &OpenGate)?;
+            assert!(&rt; are_alike(&crews.labels, &alone.labels));
+            let whole = chase_setup(&rt, alloc, &prepared.setup, workers, &OpenGate)?;
+            assert!(&rt; are_alike(&whole.labels, &alone.labels));
+            assert_eq!(&rt; whole.journal.len(), count as usize);
+        }
+    }
+    Ok(())
 }
 
 #[test]
@@ -38,7 +80,10 @@ fn each_pair_passes_once(rt: HostRuntime) -> Result<(), Fail> {
     let alloc = rt.alloc();
     let prepared = prepared(&rt, alloc, Kind::Alone, 100)?;
     let gate = no_counts(alloc, 100)?;
-    assert_eq!(&rt; run(&rt, alloc, &prepared.setup, 4, &gate)?, 100);
+    assert_eq!(&rt;
+        run(&rt, alloc, &prepared.setup, 4, &gate)?.journal.len(),
+        100
+    );
     for count in &gate.passed {
         assert_eq!(&rt; count.load(Ordering::SeqCst), 1);
     }
@@ -50,7 +95,10 @@ fn one_worker_begins_with_its_last_hint(rt: HostRuntime) -> Result<(), Fail> {
     let alloc = rt.alloc();
     let prepared = prepared(&rt, alloc, Kind::Alone, 100)?;
     let gate = no_counts(alloc, 100)?;
-    assert_eq!(&rt; run(&rt, alloc, &prepared.setup, 1, &gate)?, 100);
+    assert_eq!(&rt;
+        run(&rt, alloc, &prepared.setup, 1, &gate)?.journal.len(),
+        100
+    );
     assert_eq!(&rt; gate.first.load(Ordering::SeqCst), 99);
     Ok(())
 }
@@ -60,7 +108,10 @@ fn two_workers_are_at_the_gate_at_once(rt: HostRuntime) -> Result<(), Fail> {
     let alloc = rt.alloc();
     let prepared = prepared(&rt, alloc, Kind::Alone, 2)?;
     let gate = empty_meeting();
-    assert_eq!(&rt; run(&rt, alloc, &prepared.setup, 2, &gate)?, 2);
+    assert_eq!(&rt;
+        run(&rt, alloc, &prepared.setup, 2, &gate)?.journal.len(),
+        2
+    );
     assert_eq!(&rt; gate.met.load(Ordering::SeqCst), 1);
     Ok(())
 }
@@ -73,7 +124,9 @@ fn crews_of_all_sizes_come_to_the_same(rt: HostRuntime) -> Result<(), Fail> {
             let prepared = prepared(&rt, alloc, kind, count)?;
             for workers in [1, 2, 4, 64] {
                 assert_eq!(&rt;
-                    run(&rt, alloc, &prepared.setup, workers, &OpenGate)?,
+                    run(&rt, alloc, &prepared.setup, workers, &OpenGate)?
+                        .journal
+                        .len(),
                     count as usize
                 );
             }
