@@ -3,10 +3,10 @@ mod NameFacts
 mod ToNumbers
 mod Accepted
 mod FromNumbers
-mod TripleFacts
 mod RowLemmas
 mod SameReason
 mod StepLemmas
 mod LookupLemmas
+mod NumberLemmas
 mod PreparedLemmas
 mod SameVerdict

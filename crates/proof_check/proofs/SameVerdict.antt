@@ -15,6 +15,7 @@ use Rattle.key_file.specs.Compile.{shape_of}
 use Rattle.key_file.proofs.CallerLemmas.{key_facts}
 use Rattle.proof_graph.specs.Steps.{StepNumbers, step_with, term_at, step_ends, IsNumberedBelow}
 use Rattle.proof_check.specs.Verdict.{key_place, reason_at, reason_of, rejected_or, verdict_after, verdict}
+use Rattle.proof_check.specs.NumberVerdict.{IsLookup}
 use Rattle.proof_check.specs.Prepared.{both_terms, AreNumberedLinks, IsPrepared, reason_by, reason_with, number_ends, verdict_with}
 use Rattle.proof_check.specs.declared.lookup.Lookup.{Lookup}
 use Rattle.proof_check.specs.declared.reason.Reason.{Reason}
@@ -24,7 +25,29 @@ use Rattle.proof_check.proofs.ListFacts.{get_or-map}
 use Rattle.proof_check.proofs.ToNumbers.{holds_at, ends_inside}
 use Rattle.proof_check.proofs.SameReason.{HasNames, reason_same}
 
-module _ (triples : List Triple) (keys : List KeyShape) (terms : List Term) (look : Lookup) (patterns : List Shape) (R : IsPrepared triples keys terms look patterns) (file : IsKeyFile keys) where
+module _ (keys : List KeyShape) (terms : List Term) (look : Lookup) (patterns : List Shape) (R : IsPrepared keys terms look patterns) where
+  inside_more : (side : List ℕ) → All (λ n. n < length terms) side → All (λ n. n < length look.names) side
+  inside_more side h i d l = let a = h i d l in let e = ap length R.begins in let n = length-append terms R.more in omega arith
+
+  pub steps_inside : (steps : List StepNumbers) → All (IsNumberedBelow (length terms)) steps → All (IsNumberedBelow (length look.names)) steps
+  steps_inside steps h i d l = let a = h i d l in (inside_more (get_or steps i d).left a.0, inside_more (get_or steps i d).right a.1)
+
+  side_same : (side : List ℕ) → All (λ n. n < length terms) side → map (term_at look.names) side ≡ map (term_at terms) side
+  side_same [] h = refl
+  side_same (n ∷ side) h =
+      ap₂ (λ t ts. t ∷ ts) (ap (λ l. term_at l n) R.begins ∙ get_or_append_left terms R.more (Plain []) n (h 0 0 (omega arith))) (side_same side (λ i d l. h (suc i) d (omega arith)))
+
+  steps_same : (steps : List StepNumbers) → All (IsNumberedBelow (length terms)) steps → map (step_with look.names) steps ≡ map (step_with terms) steps
+  steps_same [] h = refl
+  steps_same (step ∷ steps) h =
+      let here = h 0 step (omega arith) in
+      let l = side_same step.left here.0 in
+      let r = side_same step.right here.1 in
+      let one : step_with look.names step ≡ step_with terms step = λ i. record { key = step.key; left = l i; right = r i; supports = step.supports } in
+      ap₂ (λ t ts. t ∷ ts) one (steps_same steps (λ i d l. h (suc i) d (omega arith)))
+
+module _ (triples : List Triple) (keys : List KeyShape) (terms : List Term) (look : Lookup) (patterns : List Shape) (R : IsPrepared keys terms look patterns)
+    (L : IsLookup triples look.names look.rows.items look.known.items look.kind) (file : IsKeyFile keys) where
   abbrev names : List Term
   names = look.names
 
@@ -38,7 +61,7 @@ module _ (triples : List Triple) (keys : List KeyShape) (terms : List Term) (loo
       reason_by look ends step (option_map (shape_of names) o) ≡ reason_at triples (map (both_terms names) ends) (step_with names step) o
   by_key ends inside step is k None at = refl
   by_key ends inside step is k (Some key) at =
-      reason_same triples names look.rows.items look.known.items look.kind R.lookup key (has_names k key at) (ends_inside key (key_is k key at)) ends inside step is.0 is.1
+      reason_same triples names look.rows.items look.known.items look.kind L key (has_names k key at) (ends_inside key (key_is k key at)) ends inside step is.0 is.1
 
   pub reason_is : (ends : List (ℕ × ℕ)) → AreNumberedLinks (length names) ends → (step : StepNumbers) → IsNumberedBelow (length names) step →
       reason_with look patterns keys ends step ≡ reason_of triples keys (map (both_terms names) ends) (step_with names step)
@@ -86,25 +109,5 @@ module _ (triples : List Triple) (keys : List KeyShape) (terms : List Term) (loo
       by_reason number a b None e h = h e
       by_reason number a b (Some r) e h = refl
 
-  inside_more : (side : List ℕ) → All (λ n. n < length terms) side → All (λ n. n < length names) side
-  inside_more side h i d l = let a = h i d l in let e = ap length R.begins in let n = length-append terms R.more in omega arith
-
-  pub steps_inside : (steps : List StepNumbers) → All (IsNumberedBelow (length terms)) steps → All (IsNumberedBelow (length names)) steps
-  steps_inside steps h i d l = let a = h i d l in (inside_more (get_or steps i d).left a.0, inside_more (get_or steps i d).right a.1)
-
-  side_same : (side : List ℕ) → All (λ n. n < length terms) side → map (term_at names) side ≡ map (term_at terms) side
-  side_same [] h = refl
-  side_same (n ∷ side) h =
-      ap₂ (λ t ts. t ∷ ts) (ap (λ l. term_at l n) R.begins ∙ get_or_append_left terms R.more (Plain []) n (h 0 0 (omega arith))) (side_same side (λ i d l. h (suc i) d (omega arith)))
-
-  steps_same : (steps : List StepNumbers) → All (IsNumberedBelow (length terms)) steps → map (step_with names) steps ≡ map (step_with terms) steps
-  steps_same [] h = refl
-  steps_same (step ∷ steps) h =
-      let here = h 0 step (omega arith) in
-      let l = side_same step.left here.0 in
-      let r = side_same step.right here.1 in
-      let one : step_with names step ≡ step_with terms step = λ i. record { key = step.key; left = l i; right = r i; supports = step.supports } in
-      ap₂ (λ t ts. t ∷ ts) one (steps_same steps (λ i d l. h (suc i) d (omega arith)))
-
   pub same_verdict : (steps : List StepNumbers) → All (IsNumberedBelow (length terms)) steps → verdict_with look patterns keys [] steps ≡ verdict triples keys (map (step_with terms) steps)
-  same_verdict steps h = same_from [] (λ k p at. absurd cc) steps (steps_inside steps h) ∙ ap (verdict triples keys) (steps_same steps h)
+  same_verdict steps h = same_from [] (λ k p at. absurd cc) steps (steps_inside keys terms look patterns R steps h) ∙ ap (verdict triples keys) (steps_same keys terms look patterns R steps h)

@@ -4,7 +4,6 @@ use Rattle.std.specs.Ordering.{nat_cmp}
 use Rattle.std.specs.Cmp.Lexicographic.{slice_cmp}
 use Rattle.std.specs.List.Sorted.{IsSorted}
 use Rattle.gk_base.specs.declared.term.Term.{Term}
-use Rattle.gk_base.specs.declared.term.Triple.{Triple}
 use Rattle.chase_laws.specs.Shape.{Shape}
 use Rattle.term_table.specs.Numbering.{is_named}
 use Rattle.key_file.specs.declared.slot.KeySlot.{KeySlot}
@@ -12,7 +11,7 @@ use Rattle.key_file.specs.declared.edge.KeyEdge.{KeyEdge}
 use Rattle.key_file.specs.KeyShape.{KeyShape}
 use Rattle.key_file.specs.Compile.{slot_terms, patterns_of}
 use Rattle.proof_graph.specs.Steps.{StepNumbers, term_at}
-use Rattle.proof_check.specs.NumberVerdict.{IsLookup, number_reason}
+use Rattle.proof_check.specs.NumberVerdict.{number_reason}
 use Rattle.proof_check.specs.Verdict.{key_place, rejected_or}
 use Rattle.proof_check.specs.declared.verdict.Verdict.{Verdict}
 use Rattle.proof_check.specs.declared.verdict.Verdict.TheVariants.{Accepted}
@@ -33,10 +32,8 @@ pub record AreKeyNames (names : List Term) (keys : List KeyShape) : Type 0 where
   pub slots : (k s j : ℕ) (key : KeyShape) (slot : KeySlot) (u : Term) → slice_get keys k ≡ Some key → slice_get key.slots s ≡ Some slot → slice_get (slot_terms slot) j ≡ Some u → is_named names u ≡ true
   pub preds : (k i : ℕ) (key : KeyShape) (e : KeyEdge) → slice_get keys k ≡ Some key → slice_get key.edges i ≡ Some e → is_named names e.pred ≡ true
 
--- The lookup says what the triples say, the patterns are those of the keys, and the numbers are places of names that begin
--- with a proof's terms.
-pub record IsPrepared (triples : List Triple) (keys : List KeyShape) (terms : List Term) (look : Lookup) (patterns : List Shape) : Type 0 where
-  pub lookup : IsLookup triples look.names look.rows.items look.known.items look.kind
+-- The patterns are those of the keys, and the numbers are places of names that begin with a proof's terms.
+pub record IsPrepared (keys : List KeyShape) (terms : List Term) (look : Lookup) (patterns : List Shape) : Type 0 where
   pub ascending : IsSorted (slice_cmp nat_cmp) look.rows.items
   pub count : length look.known.items ≡ length look.names
   pub compiled : patterns ≡ patterns_of look.names keys

@@ -1,17 +1,21 @@
 //! The checker.
 
-ghost use Rattle.std.specs.Prelude.{◌≡◌, ◌<◌, ◌-◌, ◌^◌, [], IfOk, All, length, slice_index};
+ghost use Rattle.std.specs.Prelude.{◌≡◌, ◌<◌, ◌-◌, ◌^◌, [], List, IfOk, All, length, slice_index};
 ghost use Rattle.std.specs.Ordering.{nat_cmp};
 ghost use Rattle.std.specs.Cmp.Lexicographic.{slice_cmp};
 ghost use Rattle.std.specs.List.Sorted.{IsSorted};
+ghost use Rattle.gk_base.specs.declared.term.Triple.{Triple};
 ghost use Rattle.key_file.specs.Numbered.{rdf_type};
 ghost use Rattle.term_table.specs.Numbering.{AreDistinct, names_of};
 ghost use Rattle.proof_graph.specs.Steps.{IsNumberedBelow};
 ghost use Rattle.proof_check.specs.Verdict.{key_place, verdict};
+ghost use Rattle.proof_check.specs.Rows.{IsGraphInNumbers};
+ghost use Rattle.proof_check.specs.NumberVerdict.{IsLookup};
 ghost use Rattle.proof_check.specs.Prepared.{IsPrepared, reason_with, verdict_with};
 
 use crate::judging::least_reason;
 use crate::lookup::Lookup;
+use crate::numbers::in_numbers;
 use crate::reason::Reason;
 use crate::verdict::Verdict;
 use chase_laws::Pattern;
@@ -67,21 +71,24 @@ struct Prepared {
 /// The lookup of a graph by the numbers of a proof's terms, and the keys' patterns. No other term of the graph has a number.
 fn prepare(
     alloc: Global,
-    triples: &Triples,
+    rows: &[[u32; 3]],
+    names: &Names,
     keys: &KeyFile,
     terms: &[Term],
 ) -> Result<Prepared, NoMemory>
     requires { AreDistinct terms.now }
-    ensures { IfOk result (λ r. IsPrepared triples.now keys.now terms.now r.look r.patterns.items) }
+    ensures prepared { IfOk result (λ r. IsPrepared keys.now terms.now r.look r.patterns.items) }
+    ensures lookup { IfOk result (λ r. (triples : List Triple) → IsGraphInNumbers names.now rows.now triples →
+        IsLookup triples r.look.names r.look.rows.items r.look.known.items r.look.kind) }
 {
     if terms.len() >= MOST_TERMS {
         return Err(NoMemory);
     }
     let _keys = keys.keys();
-    let mut names = numbers(alloc, terms)?;
-    let kind = names.intern(type_term(alloc)?)?;
-    let patterns = compile(alloc, keys, &mut names)?;
-    let look = Lookup::new(alloc, triples, names, kind)?;
+    let mut numbered = numbers(alloc, terms)?;
+    let kind = numbered.intern(type_term(alloc)?)?;
+    let patterns = compile(alloc, keys, &mut numbered)?;
+    let look = Lookup::new(alloc, rows, names, numbered, kind)?;
     Ok(Prepared { look, patterns })
 }
 
@@ -127,7 +134,7 @@ fn judge_all(
     requires few { length steps.now < 2 ^ 32 }
     ensures { IfOk result (λ v. v ≡ verdict_with ready.now.look ready.now.patterns.items keys.now [] steps.now) }
 {
-    let mut ends = Vec::new(alloc);
+    let mut ends = Vec::with_capacity(alloc, steps.len())?;
     for step in steps {
         if let Some(reason) = judge(alloc, ready, keys, step, &ends)? {
             return Ok(Verdict::Rejected {
@@ -142,8 +149,28 @@ fn judge_all(
     })
 }
 
+/// What is to be said of a proof, over a graph in numbers and the keys: that each step holds, or which is the first that does
+/// not, and the first test that it fails. The names are the distinct terms of the graph's triples in their order, and there is
+/// a row for each triple, with the places of its subject, its predicate and its object among the names. `NoMemory` comes also
+/// where the proof has more terms than can be numbered.
+pub fn check_rows(
+    alloc: Global,
+    rows: &[[u32; 3]],
+    names: &Names,
+    keys: &KeyFile,
+    proof: &Proof,
+) -> Result<Verdict, NoMemory>
+    requires { length proof.now < 2 ^ 32 }
+    ensures { IfOk result (λ v. (triples : List Triple) → IsGraphInNumbers names.now rows.now triples → v ≡ verdict triples keys.now proof.now) }
+{
+    let keys_list = keys.keys();
+    let ready = prepare(alloc, rows, names, keys, &proof.terms)?;
+    judge_all(alloc, &ready, keys_list, &proof.steps)
+}
+
 /// What is to be said of a proof, over the triples of a graph and the keys: that each step holds, or which is the first that
-/// does not, and the first test that it fails. `NoMemory` comes also where the proof has more terms than can be numbered.
+/// does not, and the first test that it fails. `NoMemory` comes also where the proof or the triples have more terms than can be
+/// numbered.
 pub fn check(
     alloc: Global,
     triples: &Triples,
@@ -153,7 +180,6 @@ pub fn check(
     requires { length proof.now < 2 ^ 32 }
     ensures { IfOk result (λ v. v ≡ verdict triples.now keys.now proof.now) }
 {
-    let keys_list = keys.keys();
-    let ready = prepare(alloc, triples, keys, &proof.terms)?;
-    judge_all(alloc, &ready, keys_list, &proof.steps)
+    let graph = in_numbers(alloc, triples)?;
+    check_rows(alloc, &graph.rows, &graph.names, keys, proof)
 }

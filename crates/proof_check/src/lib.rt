@@ -4,7 +4,8 @@
 //!
 //! - `verdict`, `reason`: what is said of a proof
 //! - `checking`: the checker
-//! - `lookup`, `rows`, `lent_triple`: what is looked up in the graph
+//! - `numbers`: triples in numbers, and numbers of a graph among those of a proof
+//! - `lookup`, `rows`: what is looked up in the graph
 //! - `judging`: the least reason against a step
 //! - `side`, `values`, `supports`: the tests of a step
 //! - `laws`: what an accepted proof is
@@ -13,8 +14,8 @@
 mod checking;
 mod judging;
 mod laws;
-mod lent_triple;
 mod lookup;
+mod numbers;
 mod reason;
 mod rows;
 mod side;
@@ -22,7 +23,7 @@ mod supports;
 mod values;
 mod verdict;
 
-pub use checking::check;
+pub use checking::{check, check_rows};
 pub use laws::law_proof;
 pub use reason::Reason;
 pub use verdict::Verdict;

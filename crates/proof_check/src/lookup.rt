@@ -1,29 +1,31 @@
 //! What is looked up in a graph, by numbers of terms.
 
-ghost use Rattle.std.specs.Prelude.{◌≡◌, ◌<◌, ◌++◌, [], ℕ, IfOk, IfSome, OnOk, true, false, length, option_to_list, slice_index_or};
+ghost use Rattle.std.specs.Prelude.{◌≡◌, ◌<◌, ◌++◌, List, ℕ, All, IfOk, IfSome, OnOk, true, false, length, slice_index_or, fold, option_to_list};
 ghost use Rattle.std.specs.List.{filter_map};
 ghost use Rattle.std.specs.Ordering.{nat_cmp};
 ghost use Rattle.std.specs.Cmp.Lexicographic.{slice_cmp};
 ghost use Rattle.std.specs.List.Sorted.{IsSorted};
+ghost use Rattle.gk_base.specs.declared.term.Triple.{Triple};
 ghost use Rattle.key_file.specs.Numbered.{rdf_type};
 ghost use Rattle.term_table.specs.Numbering.{AreDistinct, is_named, place_of};
-ghost use Rattle.proof_graph.specs.Steps.{term_at};
-ghost use Rattle.proof_check.specs.Verdict.{is_known};
 ghost use Rattle.proof_check.specs.NumberVerdict.{IsLookup};
-ghost use Rattle.proof_check.specs.Rows.{number_in, row_of_numbers, row_in, with_mark, MarksEnds};
+ghost use Rattle.proof_check.specs.Rows.{number_at, row_of_numbers, row_by, with_mark, with_ends, IsGraphInNumbers};
 
-use crate::lent_triple::{LentTriple, triple_at};
+use crate::numbers::numbers_among;
 use crate::rows::sorted;
 use gk_base::NoMemory;
 use std::alloc::Global;
-use term_list::{TermRef, Triples};
 use term_table::Names;
 
-/// The number of a term, if it has one.
-fn number(names: &Names, term: &TermRef<'_>) -> Option<u32>
-    ensures { result ≡ number_in names.now term.now }
+/// The number at a place, if there is one.
+#[inline]
+fn number_at(numbers: &[Option<u32>], place: u32) -> Option<u32>
+    ensures { result ≡ number_at numbers.now place }
 {
-    names.find_ref(term)
+    match numbers.get(place as usize) {
+        Some(number) => *number,
+        None => None,
+    }
 }
 
 /// Marks a number, if there is one.
@@ -51,45 +53,48 @@ fn put_row(
     Ok(())
 }
 
-/// Puts the row of a triple at the end, if its terms have numbers, and marks those of its subject and its object.
+/// Puts a row of the graph at the end by these numbers, if its three have some, and marks those of its subject and its object.
 fn look_at(
-    names: &Names,
-    triple: &LentTriple<'_>,
+    numbers: &[Option<u32>],
+    row: &[u32; 3],
     rows: &mut Vec<[u32; 3]>,
     known: &mut [bool],
 ) -> Result<(), NoMemory>
-    requires count { length known.old ≡ length names.now }
-    requires distinct { AreDistinct names.now }
-    ensures rows { OnOk result (rows.new.items ≡ rows.old.items ++ option_to_list (row_in names.now triple.now)) }
-    ensures known { MarksEnds names.now triple.now known.old known.new }
+    requires { All (λ number. IfSome number (λ n. n < length known.old)) numbers.now }
+    ensures rows { OnOk result (rows.new.items ≡ rows.old.items ++ option_to_list (row_by numbers.now row.now)) }
+    ensures known { known.new ≡ with_ends numbers.now known.old row.now }
 {
-    let subject = number(names, &triple.subject);
-    let predicate = number(names, &triple.predicate);
-    let object = number(names, &triple.object);
+    let subject = number_at(numbers, row[0]);
+    let predicate = number_at(numbers, row[1]);
+    let object = number_at(numbers, row[2]);
     mark(known, subject);
     mark(known, object);
     put_row(rows, subject, predicate, object)
 }
 
-/// Puts the rows of triples, and marks the numbers of their subjects and objects.
+/// Puts the rows of a graph by these numbers, and marks those of their subjects and objects.
 fn look_at_all(
-    names: &Names,
-    triples: &Triples,
+    numbers: &[Option<u32>],
+    graph: &[[u32; 3]],
     rows: &mut Vec<[u32; 3]>,
     known: &mut [bool],
 ) -> Result<(), NoMemory>
-    requires count { length known.old ≡ length names.now }
-    requires distinct { AreDistinct names.now }
-    requires no_rows { rows.old.items ≡ [] }
-    requires no_marks { (n : ℕ) → slice_index_or known.old n false ≡ false }
-    ensures rows { OnOk result (rows.new.items ≡ filter_map (row_in names.now) triples.now) }
-    ensures known { OnOk result ((n : ℕ) → n < length names.now →
-        slice_index_or known.new n false ≡ is_known triples.now (term_at names.now n)) }
+    requires { All (λ number. IfSome number (λ n. n < length known.old)) numbers.now }
+    ensures rows { OnOk result (rows.new.items ≡ rows.old.items ++ filter_map (row_by numbers.now) graph.now) }
+    ensures known { OnOk result (known.new ≡ fold (with_ends numbers.now) known.old graph.now) }
 {
-    for place in 0..triples.len() {
-        look_at(names, &triple_at(triples, place), rows, known)?;
+    for row in graph {
+        look_at(numbers, row, rows, known)?;
     }
     Ok(())
+}
+
+/// So many flags, none of which is set.
+fn unset(alloc: Global, count: usize) -> Result<Vec<bool>, NoMemory>
+    ensures count { IfOk result (λ flags. length flags.items ≡ count) }
+    ensures unset { IfOk result (λ flags. (n : ℕ) → slice_index_or flags.items n false ≡ false) }
+{
+    Ok(vec![in alloc; false; count]?)
 }
 
 /// The lookup of a graph: the rows of those triples whose terms have numbers, ascending; for each number whether its term is
@@ -103,24 +108,26 @@ pub(crate) struct Lookup {
 }
 
 impl Lookup {
-    /// What is looked up in these triples by these numbers.
+    /// What is looked up by these names in a graph, of which these are the rows and the names.
     pub(crate) fn new(
         alloc: Global,
-        triples: &Triples,
+        graph_rows: &[[u32; 3]],
+        graph_names: &Names,
         names: Names,
         kind: u32,
     ) -> Result<Lookup, NoMemory>
-        requires distinct { AreDistinct names }
         requires named { is_named names rdf_type ≡ true }
         requires kind { place_of names rdf_type ≡ kind }
         ensures names { IfOk result (λ l. l.names ≡ names) }
-        ensures lookup { IfOk result (λ l. IsLookup triples.now names l.rows.items l.known.items l.kind) }
+        ensures lookup { IfOk result (λ l. (triples : List Triple) → IsGraphInNumbers graph_names.now graph_rows.now triples →
+            IsLookup triples names l.rows.items l.known.items l.kind) }
         ensures ascending { IfOk result (λ l. IsSorted (slice_cmp nat_cmp) l.rows.items) }
         ensures count { IfOk result (λ l. length l.known.items ≡ length names) }
     {
-        let mut rows = Vec::new(alloc);
-        let mut known = vec![in alloc; false; names.len() as usize]?;
-        look_at_all(&names, triples, &mut rows, &mut known)?;
+        let numbers = numbers_among(alloc, graph_names, &names)?;
+        let mut rows = Vec::with_capacity(alloc, graph_rows.len())?;
+        let mut known = unset(alloc, names.len() as usize)?;
+        look_at_all(&numbers, graph_rows, &mut rows, &mut known)?;
         Ok(Lookup {
             names,
             rows: sorted(rows),

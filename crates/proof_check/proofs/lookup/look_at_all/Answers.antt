@@ -1,24 +1,26 @@
-use Rattle.std.proofs.Common.{◌++◌, ◌||◌, sym, ap, ◌∙◌}
-use Rattle.std.specs.Option.{option_to_list}
-use Rattle.proof_graph.specs.Steps.{term_at}
-use Rattle.proof_check.specs.Verdict.{is_end}
-use Rattle.proof_check.specs.Rows.{row_in}
-use Rattle.proof_check.proofs.LookupLemmas.{rows_more, known_more}
+-- Row by row.
+use Rattle.std.proofs.Common.{◌<◌, IfSome, All, append-nil, refl, sym, subst, ◌∙◌}
+use Rattle.proof_check.proofs.LookupLemmas.{row_next, flags_next, rows_all, flags_all, flags_count}
 use Rattle.proof_check.proofs.lookup.look_at_all.Goals as goal
 
-pub loop-place-init : goal.loop-place-init
-loop-place-init c = record { rows = c.requires.no_rows; count = c.requires.count; known = λ n h. c.requires.no_marks n }
+pub loop-row-init : goal.loop-row-init
+loop-row-init c = record { rows = sym (append-nil c.args.rows.now.items); known = refl; count = refl }
 
-pub loop-place-preserved : goal.loop-place-preserved
-loop-place-preserved c =
-    let names = c.args.names.now in
-    let triples = c.args.triples.now in
-    let i = c.loop-place.place in
-    let t = c.triple_at.result in
-    let before = c.loop-place.invariant in
-    let marks = c.in_ok-look_at.ensures.known in
+pub look_at-requires : goal.look_at-requires
+look_at-requires c = subst (λ count. All (λ number. IfSome number (λ n. n < count)) c.args.numbers.now) (sym c.loop-row.invariant.count) c.requires
+
+pub loop-row-preserved : goal.loop-row-preserved
+loop-row-preserved c =
+    let before = c.loop-row.invariant in
+    let now = c.in_ok-look_at.ensures in
     record {
-      rows = c.in_ok-look_at.ensures.rows ∙ ap (λ rows. rows ++ option_to_list (row_in names t)) before.rows ∙ sym (rows_more names triples i t c.triple_at.ensures);
-      count = marks.count ∙ before.count;
-      known = λ n h. marks.set_or_kept n h ∙ ap (λ b. b || is_end (term_at names n) t) (before.known n h) ∙ sym (known_more triples i t (term_at names n) c.triple_at.ensures);
+      rows = row_next c.args.numbers.now c.args.rows.now.items c.loop-row.rows.items c.look_at.new.rows.items c.args.graph.now c.loop-row.row-index _ c.loop-row-test.true before.rows now.rows;
+      known = flags_next c.args.numbers.now c.args.known.now c.loop-row.known c.look_at.new.known c.args.graph.now c.loop-row.row-index _ c.loop-row-test.true before.known now.known;
+      count = flags_count c.args.numbers.now c.loop-row.known c.look_at.new.known c.args.graph.now c.loop-row.row-index _ now.known ∙ before.count;
     }
+
+pub returns-clause-rows : goal.returns-clause-rows
+returns-clause-rows c = rows_all c.args.numbers.now c.args.rows.now.items c.loop-row.rows.items c.args.graph.now c.loop-row.row-index c.loop-row-test.false c.loop-row.invariant.rows
+
+pub returns-clause-known : goal.returns-clause-known
+returns-clause-known c = flags_all c.args.numbers.now c.args.known.now c.loop-row.known c.args.graph.now c.loop-row.row-index c.loop-row-test.false c.loop-row.invariant.known
