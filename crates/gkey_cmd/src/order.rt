@@ -16,7 +16,7 @@ use crate::matched::match_files;
 use crate::proved::prove_files;
 use gk_base::{Limits, Stop, Text};
 use gk_io::{Failed, Shelf};
-use graph_rows::{load, read_rows, read_triples};
+use graph_rows::{load, read_rows};
 use key_lang::KeyFile;
 use proof_graph::Proof;
 use std::alloc::Global;
@@ -117,10 +117,10 @@ pub(crate) fn checked<S: Shelf>(
     ensures { let Stops = Stopped S.Shelf shelf.old shelf.new (Checking graph.now keys.now proof.now) limits.now in
         MatchResult result (λ r. Stops (Ending.Done r.0 r.1)) Stops }
 {
-    let triples = read_triples(alloc, shelf, graph, limits)?;
+    let numbered_graph = read_rows(alloc, shelf, graph, limits)?;
     let key_file = read_keys(alloc, shelf, keys, limits)?;
     let told = read_proof(alloc, shelf, proof, limits)?;
-    let answer = check_files(alloc, &triples, &key_file, &told)?;
+    let answer = check_files(alloc, &numbered_graph, &key_file, &told)?;
     Ok(answer)
 }
 

@@ -9,16 +9,16 @@ use Rattle.gkey_cmd.specs.declared.file.File.TheVariants.{Graph, Keys, Proof}
 use Rattle.gkey_cmd.proofs.Deciding.{read_none, read_next, file_left_first, stopped, graph_ends, check_stops_at_graph, check_stops_at_keys, check_stops_at_proof, check_ended}
 use Rattle.gkey_cmd.proofs.order.checked.Goals as goal
 
-pub returns-in_err-triples : goal.returns-in_err-triples
-returns-in_err-triples g c =
+pub returns-in_err-numbered_graph : goal.returns-in_err-numbered_graph
+returns-in_err-numbered_graph g c =
     let a = c.args in
     let k = c.from_residual in
     let p = err_from_is_err_and k.result k.ensures.1 in
     let none = read_none g.S.Shelf a.shelf.now a.limits.now in
-    rw (p.1, p.2) (stopped g.S.Shelf a.shelf.now a.shelf.now c.read_triples.new.shelf a.limits.now [] Graph a.graph.now none
+    rw (p.1, p.2) (stopped g.S.Shelf a.shelf.now a.shelf.now c.read_rows.new.shelf a.limits.now [] Graph a.graph.now none
     (Checking a.graph.now a.keys.now a.proof.now) ((Keys, a.keys.now) ∷ (Proof, a.proof.now) ∷ []) refl
-    (check_stops_at_graph g.S.Shelf a.shelf.now c.read_triples.new.shelf a.limits.now a.graph.now a.keys.now a.proof.now) _
-    (graph_ends g.S.Shelf a.shelf.now c.read_triples.new.shelf a.limits.now a.graph.now c.in_err-triples.field-0.0 c.in_err-triples.ensures.gives))
+    (check_stops_at_graph g.S.Shelf a.shelf.now c.read_rows.new.shelf a.limits.now a.graph.now a.keys.now a.proof.now) _
+    (graph_ends g.S.Shelf a.shelf.now c.read_rows.new.shelf a.limits.now a.graph.now c.in_err-numbered_graph.field-0.0 c.in_err-numbered_graph.ensures.gives))
 
 pub returns-in_err-key_file : goal.returns-in_err-key_file
 returns-in_err-key_file g c =
@@ -26,12 +26,12 @@ returns-in_err-key_file g c =
     let k = c.from_residual-in_err-key_file in
     let p = err_from_is_err_and k.result k.ensures.1 in
     let none = read_none g.S.Shelf a.shelf.now a.limits.now in
-    let r = c.in_ok-triples.ensures in
-    let t = c.in_ok-triples.triples in
+    let r = c.in_ok-numbered_graph.ensures in
+    let t = c.in_ok-numbered_graph.ensures.gives.1.0 in
     let accepted = told_more (g.S.Shelf.held a.shelf.now) (λ files. GraphSays a.limits.now (bytes_of files a.graph.now) (Ok t)) (λ files. IsAccepted a.limits.now files Graph a.graph.now)
-    (λ files says. (t, says)) r.gives.1.says in
-    let one = read_next g.S.Shelf a.shelf.now a.shelf.now c.read_triples.new.shelf a.limits.now [] Graph a.graph.now none accepted r.gives.0 r.held in
-    rw (p.1, p.2) (stopped g.S.Shelf a.shelf.now c.read_triples.new.shelf c.read_keys.new.shelf a.limits.now ((Graph, a.graph.now) ∷ []) Keys a.keys.now one
+    (λ files says. (t, says)) r.gives.1.1.says in
+    let one = read_next g.S.Shelf a.shelf.now a.shelf.now c.read_rows.new.shelf a.limits.now [] Graph a.graph.now none accepted r.gives.0 r.held in
+    rw (p.1, p.2) (stopped g.S.Shelf a.shelf.now c.read_rows.new.shelf c.read_keys.new.shelf a.limits.now ((Graph, a.graph.now) ∷ []) Keys a.keys.now one
     (Checking a.graph.now a.keys.now a.proof.now) ((Proof, a.proof.now) ∷ []) refl
     (check_stops_at_keys g.S.Shelf a.shelf.now c.read_keys.new.shelf a.limits.now a.graph.now a.keys.now a.proof.now) c.in_err-key_file.field-0.0 c.in_err-key_file.ensures.ends)
 
@@ -41,15 +41,15 @@ returns-in_err-told g c =
     let e = c.from_residual-in_err-told in
     let p = err_from_is_err_and e.result e.ensures.1 in
     let none = read_none g.S.Shelf a.shelf.now a.limits.now in
-    let r = c.in_ok-triples.ensures in
-    let t = c.in_ok-triples.triples in
+    let r = c.in_ok-numbered_graph.ensures in
+    let t = c.in_ok-numbered_graph.ensures.gives.1.0 in
     let k = c.in_ok-key_file in
     let accepted = told_more (g.S.Shelf.held a.shelf.now) (λ files. GraphSays a.limits.now (bytes_of files a.graph.now) (Ok t)) (λ files. IsAccepted a.limits.now files Graph a.graph.now)
-    (λ files says. (t, says)) r.gives.1.says in
-    let one = read_next g.S.Shelf a.shelf.now a.shelf.now c.read_triples.new.shelf a.limits.now [] Graph a.graph.now none accepted r.gives.0 r.held in
-    let keys_accepted = told_more (g.S.Shelf.held c.read_triples.new.shelf) (λ files. KeyFileSays a.limits.now (bytes_of files a.keys.now) (Ok k.key_file)) (λ files. IsAccepted a.limits.now files Keys a.keys.now)
+    (λ files says. (t, says)) r.gives.1.1.says in
+    let one = read_next g.S.Shelf a.shelf.now a.shelf.now c.read_rows.new.shelf a.limits.now [] Graph a.graph.now none accepted r.gives.0 r.held in
+    let keys_accepted = told_more (g.S.Shelf.held c.read_rows.new.shelf) (λ files. KeyFileSays a.limits.now (bytes_of files a.keys.now) (Ok k.key_file)) (λ files. IsAccepted a.limits.now files Keys a.keys.now)
     (λ files says. (k.key_file, says)) k.ensures.says in
-    let two = read_next g.S.Shelf a.shelf.now c.read_triples.new.shelf c.read_keys.new.shelf a.limits.now ((Graph, a.graph.now) ∷ []) Keys a.keys.now one keys_accepted k.ensures.count k.ensures.held in
+    let two = read_next g.S.Shelf a.shelf.now c.read_rows.new.shelf c.read_keys.new.shelf a.limits.now ((Graph, a.graph.now) ∷ []) Keys a.keys.now one keys_accepted k.ensures.count k.ensures.held in
     rw (p.1, p.2) (stopped g.S.Shelf a.shelf.now c.read_keys.new.shelf c.read_proof.new.shelf a.limits.now ((Graph, a.graph.now) ∷ (Keys, a.keys.now) ∷ []) Proof a.proof.now two
     (Checking a.graph.now a.keys.now a.proof.now) [] refl
     (check_stops_at_proof g.S.Shelf a.shelf.now c.read_proof.new.shelf a.limits.now a.graph.now a.keys.now a.proof.now) c.in_err-told.field-0.0 c.in_err-told.ensures.ends)
@@ -61,24 +61,24 @@ pub returns-in_err-answer : goal.returns-in_err-answer
 returns-in_err-answer g c =
     let e = c.from_residual-in_err-answer in
     let p = err_from_is_err_and e.result e.ensures.1 in
-    rw (p.1, p.2) (c.in_ok-told.ensures.count ∙ c.in_ok-key_file.ensures.count ∙ c.in_ok-triples.ensures.gives.0)
+    rw (p.1, p.2) (c.in_ok-told.ensures.count ∙ c.in_ok-key_file.ensures.count ∙ c.in_ok-numbered_graph.ensures.gives.0)
 
 pub returns : goal.returns
 returns g c =
     let a = c.args in
-    let r = c.in_ok-triples.ensures in
-    let t = c.in_ok-triples.triples in
+    let r = c.in_ok-numbered_graph.ensures in
+    let t = c.in_ok-numbered_graph.ensures.gives.1.0 in
     let k = c.in_ok-key_file in
     let d = c.in_ok-told in
     let in_keys = subst (λ o. IfSome o (λ files. KeyFileSays a.limits.now (bytes_of files a.keys.now) (Ok k.key_file))) r.held k.ensures.says in
     let in_proof = subst (λ o. IfSome o (λ files. ProofFileSays a.limits.now (bytes_of files a.proof.now) (Ok d.told))) (k.ensures.held ∙ r.held) d.ensures.says in
     let none = read_none g.S.Shelf a.shelf.now a.limits.now in
     let accepted = told_more (g.S.Shelf.held a.shelf.now) (λ files. GraphSays a.limits.now (bytes_of files a.graph.now) (Ok t)) (λ files. IsAccepted a.limits.now files Graph a.graph.now)
-    (λ files says. (t, says)) r.gives.1.says in
-    let one = read_next g.S.Shelf a.shelf.now a.shelf.now c.read_triples.new.shelf a.limits.now [] Graph a.graph.now none accepted r.gives.0 r.held in
-    let keys_accepted = told_more (g.S.Shelf.held c.read_triples.new.shelf) (λ files. KeyFileSays a.limits.now (bytes_of files a.keys.now) (Ok k.key_file)) (λ files. IsAccepted a.limits.now files Keys a.keys.now)
+    (λ files says. (t, says)) r.gives.1.1.says in
+    let one = read_next g.S.Shelf a.shelf.now a.shelf.now c.read_rows.new.shelf a.limits.now [] Graph a.graph.now none accepted r.gives.0 r.held in
+    let keys_accepted = told_more (g.S.Shelf.held c.read_rows.new.shelf) (λ files. KeyFileSays a.limits.now (bytes_of files a.keys.now) (Ok k.key_file)) (λ files. IsAccepted a.limits.now files Keys a.keys.now)
     (λ files says. (k.key_file, says)) k.ensures.says in
-    let two = read_next g.S.Shelf a.shelf.now c.read_triples.new.shelf c.read_keys.new.shelf a.limits.now ((Graph, a.graph.now) ∷ []) Keys a.keys.now one keys_accepted k.ensures.count k.ensures.held in
+    let two = read_next g.S.Shelf a.shelf.now c.read_rows.new.shelf c.read_keys.new.shelf a.limits.now ((Graph, a.graph.now) ∷ []) Keys a.keys.now one keys_accepted k.ensures.count k.ensures.held in
     let left = file_left_first g.S.Shelf a.shelf.now c.read_keys.new.shelf c.read_proof.new.shelf a.limits.now ((Graph, a.graph.now) ∷ (Keys, a.keys.now) ∷ []) Proof a.proof.now two a.limits.now.bytes d.ensures.left in
     check_ended g.S.Shelf a.shelf.now c.read_proof.new.shelf a.limits.now a.graph.now a.keys.now t k.key_file (d.ensures.count ∙ k.ensures.count ∙ r.gives.0)
-    r.gives.1.says in_keys a.proof.now d.told in_proof left c.in_ok-answer.answer.0 c.in_ok-answer.answer.1 c.in_ok-answer.ensures.answer c.in_ok-answer.ensures.text
+    r.gives.1.1.says in_keys a.proof.now d.told in_proof left c.in_ok-answer.answer.0 c.in_ok-answer.answer.1 (c.in_ok-answer.ensures.answer t r.gives.1.1.stand) (c.in_ok-answer.ensures.text t r.gives.1.1.stand)
