@@ -18,7 +18,7 @@ use Rattle.nt_reader.specs.Reading.{Front, Reading}
 use Rattle.nt_reader.specs.Kept.{IsStopped, HasCome, HasRead, FinishSays}
 use Rattle.nt_reader.proofs.CallerLemmas.{open_front}
 use Rattle.graph_rows.specs.Rows.{StandFor}
-use Rattle.graph_rows.specs.GraphFile.{StopsSoon, GraphStops, StopsAtGraph, GivesRows, GivesTriples}
+use Rattle.graph_rows.specs.GraphFile.{StopsSoon, GraphStops, StopsAtGraph, GivesRows}
 use Rattle.graph_rows.specs.Feeding.{WereRead, Feeds, FeedsNext, FeedsAll}
 use Rattle.graph_rows.specs.declared.rows.Rows.{Rows}
 use Rattle.graph_rows.proofs.NumberedRows.{names_few}
@@ -298,16 +298,3 @@ module _ {K : Type 0} (shelf : Shelf.Ghosts K) (old mid new : K) (limits : Limit
         },
       ),
     )
-
-  -- it was read to its end, and its reader has all its triples
-  pub gives_triples : (triples : List Triple) (seen : Limits) (after : Reading) (h : FeedsAll {A = Unit {0}} shelf mid new seen after (λ taken. taken ≡ []) (Ok tt)) →
-      FileSays limits h.1.1 (Ok (h.1.0 ++ triples)) → GivesTriples shelf old new limits name (Ok triples)
-  gives_triples triples seen after h says =
-      let all : FileSays limits h.1.1 (Ok triples) = subst (λ taken. FileSays limits h.1.1 (Ok (taken ++ triples))) h.1.6 says in (
-        h.0 ∙ count,
-        record {
-          few = all.2;
-          says = told_more (shelf.held old) _ _ (λ files k. subst (λ b. FileSays limits b (Ok triples)) (sym k) all)
-              (told_file (shelf.held old) (shelf.rest mid) name (λ all. all ≡ h.1.1) found h.1.3);
-        },
-      )

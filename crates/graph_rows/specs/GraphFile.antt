@@ -47,13 +47,3 @@ StopsAtGraph shelf before after limits name (Fault (Refused refusal)) = (shelf.f
 abbrev pub GivesRows : {K : Type 0} (shelf : Shelf.Ghosts K) (before after : K) (limits : Limits) (name : List ℕ) → Result Rows (Stop (FileFault ReadRefusal)) → Type 0
 GivesRows shelf before after limits name (Ok rows) = (shelf.faults after ≡ shelf.faults before) × ((triples : List Triple) × AreRowsOf shelf before limits name rows triples)
 GivesRows shelf before after limits name (Err stop) = StopsAtGraph shelf before after limits name stop
-
--- These triples are no more than the limit, and where the shelf tells its files, they are what the file of this name says.
-pub record AreTriplesOf {K : Type 0} (shelf : Shelf.Ghosts K) (before : K) (limits : Limits) (name : List ℕ) (triples : List Triple) : Type 0 where
-  pub few : length triples ≤ limits.triples
-  pub says : IfSome (shelf.held before) (λ files. FileSays limits (bytes_of files name) (Ok triples))
-
--- What reading the graph of this name gives: its triples, and the shelf did not fail; or what stopped it.
-abbrev pub GivesTriples : {K : Type 0} (shelf : Shelf.Ghosts K) (before after : K) (limits : Limits) (name : List ℕ) → Result (List Triple) (Stop (FileFault ReadRefusal)) → Type 0
-GivesTriples shelf before after limits name (Ok triples) = (shelf.faults after ≡ shelf.faults before) × AreTriplesOf shelf before limits name triples
-GivesTriples shelf before after limits name (Err stop) = StopsAtGraph shelf before after limits name stop

@@ -1,11 +1,10 @@
 //! A graph in numbers: from a shelf's file to rows and names, or what stopped it; and from those and the keys to what a chase
-//! works on. Three doors read files, `read_rows` and
-//! `read_triples` a graph piece by piece and `load` the first bytes of any file, and `number`
+//! works on. Two doors read files, `read_rows` a graph piece by piece and `load` the first bytes of any file, and `number`
 //! makes the graph and the patterns.
 //!
 //! - `loading`: the first bytes of a file
 //! - `rows`: triples in numbers
-//! - `pieces`: a graph's rows or triples, read piece by piece
+//! - `pieces`: a graph's rows, read piece by piece
 //! - `numbering`: names, graph and patterns in numbers
 #![tactic(auto)]
 
@@ -16,5 +15,5 @@ mod rows;
 
 pub use loading::load;
 pub use numbering::{Numbered, number};
-pub use pieces::{read_rows, read_triples};
+pub use pieces::read_rows;
 pub use rows::Rows;

@@ -1,9 +1,9 @@
-//! A graph, read piece by piece: from a shelf's file to rows and names, numbered as they come, or to its triples; or what stopped it.
+//! A graph, read piece by piece: from a shelf's file to rows and names, numbered as they come; or what stopped it.
 
 ghost use Rattle.std.specs.Prelude.{◌≡◌, ◌+◌, ◌<◌, ◌≤◌, ◌^◌, [], length};
 ghost use Rattle.nt_reader.specs.Kept.{HasRead};
 ghost use Rattle.graph_rows.specs.Rows.{StandFor};
-ghost use Rattle.graph_rows.specs.GraphFile.{GivesRows, GivesTriples};
+ghost use Rattle.graph_rows.specs.GraphFile.{GivesRows};
 ghost use Rattle.graph_rows.specs.Feeding.{FeedsNext, FeedsAll};
 
 use crate::loading::buffer;
@@ -61,28 +61,6 @@ fn feed_all<S: Shelf>(
     }
 }
 
-/// Reads on to the end of the file. Each piece is fed before the next is read, and the triples stay with the reader.
-fn feed_rest<S: Shelf>(
-    shelf: &mut S,
-    buf: &mut [u8],
-    reader: &mut Reader,
-) -> Result<(), FileStop<ReadRefusal>>
-    requires some { 0 < length buf.old }
-    requires few { length buf.old ≤ 65536 }
-    requires fresh { HasRead reader.old [] [] }
-    ensures held { S.held shelf.new ≡ S.held shelf.old }
-    ensures asked { S.asked shelf.new ≡ S.asked shelf.old }
-    ensures limits { reader.new.limits ≡ reader.old.limits }
-    ensures feeds { FeedsAll S.Shelf shelf.old shelf.new reader.old.limits reader.new (λ taken. taken ≡ []) result }
-{
-    'pieces: loop {
-        let count = feed_next(shelf, buf, reader)?;
-        if count == 0 {
-            return Ok(());
-        }
-    }
-}
-
 /// The rows and names of the graph of this name. The file is read piece by piece, and no further once it is refused: of the
 /// limits, those of bytes and of triples count.
 ///
@@ -110,28 +88,4 @@ pub fn read_rows<S: Shelf>(
     let mut last = reader.finish().map_err(file_stop)?;
     rows.add(&mut last)?;
     Ok(rows)
-}
-
-/// The triples of the graph of this name, packed. The file is read as `read_rows` reads it, and no further once it is refused.
-///
-/// - `NoMemory` may come at any time, and says nothing of the file.
-/// - `FileFault::Failed`: the shelf could not find the file, or could not read it to its end.
-/// - `FileFault::Refused`: the first line that is faulty or beyond a limit, and why.
-pub fn read_triples<S: Shelf>(
-    alloc: Global,
-    shelf: &mut S,
-    name: &Text,
-    limits: &Limits,
-) -> Result<Triples, FileStop<ReadRefusal>>
-    requires { limits.now.bytes + 1 < 2 ^ 64 }
-    ensures held { S.held shelf.new ≡ S.held shelf.old }
-    ensures gives { GivesTriples S.Shelf shelf.old shelf.new limits.now name.now result }
-{
-    let mut buf = buffer(alloc)?;
-    let asked = name.copy()?;
-    shelf.find(asked)?;
-    let mut keeper = Reader::new(alloc, limits);
-    feed_rest(shelf, &mut buf, &mut keeper)?;
-    let triples = keeper.finish().map_err(file_stop)?;
-    Ok(triples)
 }
