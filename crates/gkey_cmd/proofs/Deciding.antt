@@ -1,5 +1,5 @@
 -- How a run ends, from what was read.
-use Rattle.std.proofs.Common.{List, [], ◌∷◌, ◌++◌, ℕ, Some, Result, Ok, Err, IfSome, IsSomeAnd, MatchResult, Vec, Global, vec_items, ◌≡◌, ◌∙◌, inl, inr, refl, sym, subst}
+use Rattle.std.proofs.Common.{List, [], ◌∷◌, ◌++◌, ℕ, Option, Some, Result, Ok, Err, IfSome, IsSomeAnd, MatchResult, Vec, Global, vec_items, ◌≡◌, ◌∙◌, inl, inr, refl, sym, subst}
 use Rattle.gk_base.specs.declared.limits.Limits.{Limits}
 use Rattle.gk_base.specs.declared.read_fault.ReadRefusal.{ReadRefusal}
 use Rattle.gk_base.specs.declared.stop.Stop.{Stop}
@@ -18,7 +18,7 @@ use Rattle.proof_graph.specs.CanonicalProof.{proof_text}
 use Rattle.proof_check.specs.Verdict.{verdict}
 use Rattle.graph_rows.specs.GraphFile.{StopsSoon, StopsAtGraph}
 use Rattle.graph_rows.proofs.CallerLemmas.{told, told_more, told_both}
-use Rattle.gkey_cmd.specs.Commands.{Wanted, Matching, Proving, Checking, Converting, files_of}
+use Rattle.gkey_cmd.specs.Commands.{Wanted, Matching, Proving, Checking, Converting, Demonstrating, demo_graph_name, demo_keys_name, files_of}
 use Rattle.gkey_cmd.specs.Reading.{NamedFiles, IsAccepted, GraphSays, KeyFileSays, ProofFileSays, IsRefusedSo, AllAccepted, FirstRefused}
 use Rattle.gkey_cmd.specs.HowFar.{IsReadWithin, FileLeft, KeysLeft, ProofLeft, ChaseStops, LeavesFiles, StopsReading}
 use Rattle.gkey_cmd.specs.Failing.{HasFailed}
@@ -27,7 +27,8 @@ use Rattle.gkey_cmd.specs.Checked.{verdict_answer, verdict_text}
 use Rattle.gkey_cmd.specs.Written.{ChaseHasMorePairs, IsAnswered, IsRefused}
 use Rattle.gkey_cmd.specs.ChaseEnds.{ChaseEnds, IsProofOfFiles}
 use Rattle.gkey_cmd.proofs.Spelled.{names_good, names_spelled}
-use Rattle.gkey_cmd.specs.Endings.{graph_ending, Stopped, StopsAt, EndsAt, ReadSoFar}
+use Rattle.gkey_cmd.specs.Demo.{demo_files, IsDemoText}
+use Rattle.gkey_cmd.specs.Endings.{graph_ending, Stopped, DemoStops, Caused, HasNoAnswer, StopsAt, EndsAt, ReadSoFar}
 use Rattle.gkey_cmd.specs.declared.file.File.{File}
 use Rattle.gkey_cmd.specs.declared.file.File.TheVariants.{Graph, Keys, Proof}
 use Rattle.gkey_cmd.specs.declared.ending.Answer.{Answer}
@@ -193,6 +194,28 @@ module _ (limits : Limits) (files : NamedFiles) (graph keys : List ℕ) (triples
   prove_refused : HasTooManyPairs triples key_list limits.pairs → IsRefused (Some (Proving graph keys)) files limits (MorePairsThan limits.pairs)
   prove_refused h = inr (both_accepted, more_here h, refl)
 
+-- a demo whose texts are read
+module _ (n : ℕ) (limits : Limits) (triples : List Triple) (key_list : List KeyShape) (in_graph : GraphSays limits (bytes_of (demo_files n) demo_graph_name) (Ok triples)) (in_keys : KeyFileSays limits (bytes_of (demo_files n) demo_keys_name) (Ok key_list)) where
+  pub demo_ended : (result : Result (Vec ℕ Global) Ending) → ChaseEnds IsDemoText triples key_list limits.pairs result →
+      MatchResult result (λ text. DemoStops n limits (Done Given text)) (DemoStops n limits)
+  demo_ended (Ok text) h = (
+    (
+      both_accepted limits (demo_files n) demo_graph_name demo_keys_name triples key_list in_graph in_keys,
+      (λ more. h.1 (more_only_here limits (demo_files n) demo_graph_name demo_keys_name triples key_list in_graph in_keys more)),
+    ),
+    (triples, key_list, in_graph, in_keys, h.0),
+  )
+  demo_ended (Err (Refused refusal)) h = subst (λ r. IsRefused (Some (Demonstrating n)) (demo_files n) limits r) (sym h.0)
+      (inr (
+        both_accepted limits (demo_files n) demo_graph_name demo_keys_name triples key_list in_graph in_keys,
+        more_here limits (demo_files n) demo_graph_name demo_keys_name triples key_list in_graph in_keys h.1,
+        refl,
+      ))
+  demo_ended (Err NoMemory) h = tt
+  demo_ended (Err NoCommand) h = absurd h
+  demo_ended (Err (Failed file)) h = absurd h
+  demo_ended (Err (Done answer text)) h = absurd h
+
 module _ {K : Type 0} (shelf : Shelf.Ghosts K) (old new : K) (limits : Limits) (graph keys : List ℕ) (triples : List Triple) (key_list : List KeyShape) (count : shelf.faults new ≡ shelf.faults old)
     (in_graph : IfSome (shelf.held old) (λ files. GraphSays limits (bytes_of files graph) (Ok triples))) (in_keys : IfSome (shelf.held old) (λ files. KeyFileSays limits (bytes_of files keys) (Ok key_list))) where
   -- a command with a chase that ends so leaves the run so
@@ -253,3 +276,30 @@ convert_ended shelf old new limits proof steps text count in_proof left t = (
       (λ files p. ((((steps, p), tt), (λ h. h)), (steps, p, t))) in_proof,
   left,
 )
+
+-- ---- commands whose graph or keys are not to be had
+
+-- an ending at a file is no answer
+pub no_answer_at : {K : Type 0} (shelf : Shelf.Ghosts K) (before after : K) (limits : Limits) (file : File) (name : List ℕ) (ending : Ending) →
+    EndsAt shelf before after limits file name ending → HasNoAnswer ending
+no_answer_at shelf before after limits file name NoCommand h = tt
+no_answer_at shelf before after limits file name (Failed which) h = tt
+no_answer_at shelf before after limits file name (Refused refusal) h = tt
+no_answer_at shelf before after limits file name NoMemory h = tt
+no_answer_at shelf before after limits file name (Done answer text) h = h
+
+-- a demo causes the run's ending
+pub demo_caused : {K : Type 0} (shelf : Shelf.Ghosts K) (at : K) (limits : Limits) (command : Option Wanted) (n : ℕ) → command ≡ Some (Demonstrating n) →
+    (ending : Ending) → DemoStops n limits ending → Caused shelf at at command limits ending
+demo_caused shelf at limits command n is NoCommand h = absurd h
+demo_caused shelf at limits command n is (Failed file) h = absurd h
+demo_caused shelf at limits command n is (Refused refusal) h = (Demonstrating n, is, (refl, h, refl))
+demo_caused shelf at limits command n is NoMemory h = (Demonstrating n, is, refl)
+demo_caused shelf at limits command n is (Done answer text) h = (Demonstrating n, is, (refl, h, refl))
+
+-- ---- the ending of a command that has one answer and its text, or has none
+
+pub given_ends : (Stops : Ending → Type 0) (text : Result (Vec ℕ Global) Ending) (ending : Ending) →
+    MatchResult text (λ t. ending ≡ Done Given t) (λ e. ending ≡ e) → MatchResult text (λ t. Stops (Done Given t)) Stops → Stops ending
+given_ends Stops (Ok t) ending is h = subst Stops (sym is) h
+given_ends Stops (Err e) ending is h = subst Stops (sym is) h

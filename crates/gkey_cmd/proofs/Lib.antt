@@ -1,6 +1,8 @@
+mod Numbers
 mod Fronts
 mod Deciding
 mod Running
 mod Reports
+mod DemoCounts
 mod Derived
 mod Spelled

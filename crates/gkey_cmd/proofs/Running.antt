@@ -11,14 +11,15 @@ use Rattle.nt_reader.proofs.CallerLemmas.{file_once}
 use Rattle.key_lang.proofs.CallerLemmas.{keys_once}
 use Rattle.proof_graph.proofs.CallerLemmas.{proof_once}
 use Rattle.graph_rows.proofs.CallerLemmas.{told, told_more}
-use Rattle.gkey_cmd.specs.Commands.{Wanted, files_of}
+use Rattle.gkey_cmd.specs.Commands.{Wanted, Demonstrating, files_of}
 use Rattle.gkey_cmd.specs.Texts.{usage, out_of_memory, write_failed, read_failed, refused_text}
 use Rattle.gkey_cmd.specs.Reading.{NamedFiles, IsAccepted, IsRefusedSo, AllAccepted, FirstRefused}
 use Rattle.gkey_cmd.specs.HowFar.{LeavesFiles, StopsReading}
 use Rattle.gkey_cmd.specs.Failing.{HasFailed}
 use Rattle.gkey_cmd.specs.Sent.{TookAll, TookLess, Sent}
 use Rattle.gkey_cmd.specs.Written.{status_of, IsAnswer, IsRefused, AreAccepted, IsAnswered, WritesFor, AsNoCommand, AsRefused, AsAnswered}
-use Rattle.gkey_cmd.specs.Endings.{Caused, IsReportedAs, IsTold}
+use Rattle.gkey_cmd.specs.Demo.{files_for}
+use Rattle.gkey_cmd.specs.Endings.{Caused, IsNoFailure, LeavesShelf, IsReportedAs, IsTold}
 use Rattle.gkey_cmd.specs.Run.{IsRun}
 use Rattle.gkey_cmd.specs.declared.file.File.{File}
 use Rattle.gkey_cmd.specs.declared.file.File.TheVariants.{Graph, Keys, Proof}
@@ -149,23 +150,30 @@ not_refused limits files command r (inr h) k = k.1 h.1
 -- ---- a whole run
 
 module _ {K O E : Type 0} (shelf : Shelf.Ghosts K) (out : Sink.Ghosts O) (err : Sink.Ghosts E) (old new : K) (out_before out_after : O) (err_before err_after : E) (command : Option Wanted) (limits : Limits) (status : ℕ) where
+  -- the files that the command goes by
+  abbrev pub told_files : Option NamedFiles
+  told_files = files_for command (shelf.held old)
+
+  told_for : (asked : Wanted) → command ≡ Some asked → (P : NamedFiles → Type 0) → IfSome (files_for (Some asked) (shelf.held old)) P → IfSome told_files P
+  told_for asked e P h = subst (λ w. IfSome (files_for w (shelf.held old)) P) (sym e) h
+
   abbrev pub WritesAll : NamedFiles → Type 0
   WritesAll files = status ≢ 3 → status ≢ 4 → status ≢ 5 →
       (output error : List ℕ) × WritesFor command files limits status output error × TookAll out out_before out_after output × Sent err err_before err_after error
 
-  pub written_of : (ending : Ending) → Caused shelf old new command limits ending → IsReportedAs out err out_before out_after err_before err_after ending status → IfSome (shelf.held old) WritesAll
-  written_of NoCommand c d = told (shelf.held old) _ (λ files n3 n4 n5. ([], usage, AsNoCommand c.0 d.0 refl refl, took_nothing out out_before out_after d.1, d.2))
-  written_of (Failed file) c d = told (shelf.held old) _ (λ files n3 n4 n5. absurd (n3 d.0))
-  written_of (Refused refusal) c d = told_more (shelf.held old) (λ files. IsRefused (Some c.0) files limits refusal) _
+  pub written_of : (ending : Ending) → Caused shelf old new command limits ending → IsReportedAs out err out_before out_after err_before err_after ending status → IfSome told_files WritesAll
+  written_of NoCommand c d = told told_files _ (λ files n3 n4 n5. ([], usage, AsNoCommand c.0 d.0 refl refl, took_nothing out out_before out_after d.1, d.2))
+  written_of (Failed file) c d = told told_files _ (λ files n3 n4 n5. absurd (n3 d.0))
+  written_of (Refused refusal) c d = told_more told_files (λ files. IsRefused (Some c.0) files limits refusal) _
       (λ files r n3 n4 n5. (
         [],
         refused_text refusal,
         AsRefused refusal (subst (λ w. IsRefused w files limits refusal) (sym c.1) r) d.0 refl refl,
         took_nothing out out_before out_after d.1,
         d.2,
-      )) c.2.1
-  written_of NoMemory c d = told (shelf.held old) _ (λ files n3 n4 n5. absurd (n5 d.0))
-  written_of (Done answer text) c d = told_more (shelf.held old) (λ files. IsAnswered (Some c.0) files limits answer (vec_items text)) _
+      )) (told_for c.0 c.1 (λ files. IsRefused (Some c.0) files limits refusal) c.2.1)
+  written_of NoMemory c d = told told_files _ (λ files n3 n4 n5. absurd (n5 d.0))
+  written_of (Done answer text) c d = told_more told_files (λ files. IsAnswered (Some c.0) files limits answer (vec_items text)) _
       (λ files a n3 n4 n5. elim d [
         | inl w ↦ (
           vec_items text,
@@ -175,41 +183,41 @@ module _ {K O E : Type 0} (shelf : Shelf.Ghosts K) (out : Sink.Ghosts O) (err : 
           inl (took_nothing err err_before err_after w.2),
         )
         | inr w ↦ absurd (n4 w.0)
-      ]) c.2.1
+      ]) (told_for c.0 c.1 (λ files. IsAnswered (Some c.0) files limits answer (vec_items text)) c.2.1)
 
   abbrev pub NamesRefusal : NamedFiles → Type 0
   NamesRefusal files = (refusal : Refusal) → IsRefused command files limits refusal → ¬ (Rose (shelf.faults old) (shelf.faults new)) →
       status ≢ 5 → (status ≡ 2) × Sent err err_before err_after (refused_text refusal)
 
-  pub refuses_of : (ending : Ending) → Caused shelf old new command limits ending → IsReportedAs out err out_before out_after err_before err_after ending status → IfSome (shelf.held old) NamesRefusal
-  refuses_of NoCommand c d = told (shelf.held old) _ (λ files r h n n5. absurd (subst (λ w. IsRefused w files limits r) c.0 h))
-  refuses_of (Failed file) c d = told (shelf.held old) _ (λ files r h n n5. absurd (n c.2.rose))
-  refuses_of (Refused refusal) c d = told_more (shelf.held old) (λ files. IsRefused (Some c.0) files limits refusal) _
+  pub refuses_of : (ending : Ending) → Caused shelf old new command limits ending → IsReportedAs out err out_before out_after err_before err_after ending status → IfSome told_files NamesRefusal
+  refuses_of NoCommand c d = told told_files _ (λ files r h n n5. absurd (subst (λ w. IsRefused w files limits r) c.0 h))
+  refuses_of (Failed file) c d = told told_files _ (λ files r h n n5. absurd (n c.2.rose))
+  refuses_of (Refused refusal) c d = told_more told_files (λ files. IsRefused (Some c.0) files limits refusal) _
       (λ files k r h n n5.
       let same : refusal ≡ r = refusal_once limits files c.0 refusal r k (subst (λ w. IsRefused w files limits r) c.1 h) in
-      (d.0, subst (λ t. Sent err err_before err_after t) (ap refused_text same) d.2)) c.2.1
-  refuses_of NoMemory c d = told (shelf.held old) _ (λ files r h n n5. absurd (n5 d.0))
-  refuses_of (Done answer text) c d = told_more (shelf.held old) (λ files. IsAnswered (Some c.0) files limits answer (vec_items text)) _
-      (λ files a r h n n5. absurd (not_refused limits files c.0 r (subst (λ w. IsRefused w files limits r) c.1 h) a.0)) c.2.1
+      (d.0, subst (λ t. Sent err err_before err_after t) (ap refused_text same) d.2)) (told_for c.0 c.1 (λ files. IsRefused (Some c.0) files limits refusal) c.2.1)
+  refuses_of NoMemory c d = told told_files _ (λ files r h n n5. absurd (n5 d.0))
+  refuses_of (Done answer text) c d = told_more told_files (λ files. IsAnswered (Some c.0) files limits answer (vec_items text)) _
+      (λ files a r h n n5. absurd (not_refused limits files c.0 r (subst (λ w. IsRefused w files limits r) c.1 h) a.0)) (told_for c.0 c.1 (λ files. IsAnswered (Some c.0) files limits answer (vec_items text)) c.2.1)
 
   abbrev pub IsAnsweredThen : NamedFiles → Type 0
   IsAnsweredThen files = AreAccepted command files limits → ¬ (Rose (shelf.faults old) (shelf.faults new)) →
       ¬ (Rose (out.faults out_before) (out.faults out_after)) → status ≢ 5 → IsAnswer status
 
-  pub answers_of : (ending : Ending) → Caused shelf old new command limits ending → IsReportedAs out err out_before out_after err_before err_after ending status → IfSome (shelf.held old) IsAnsweredThen
-  answers_of NoCommand c d = told (shelf.held old) _ (λ files h n m n5. absurd (subst (λ w. AreAccepted w files limits) c.0 h))
-  answers_of (Failed file) c d = told (shelf.held old) _ (λ files h n m n5. absurd (n c.2.rose))
-  answers_of (Refused refusal) c d = told_more (shelf.held old) (λ files. IsRefused (Some c.0) files limits refusal) _
-      (λ files k h n m n5. absurd (not_refused limits files c.0 refusal k (subst (λ w. AreAccepted w files limits) c.1 h))) c.2.1
-  answers_of NoMemory c d = told (shelf.held old) _ (λ files h n m n5. absurd (n5 d.0))
-  answers_of (Done answer text) c d = told (shelf.held old) _ (λ files h n m n5. elim d [
+  pub answers_of : (ending : Ending) → Caused shelf old new command limits ending → IsReportedAs out err out_before out_after err_before err_after ending status → IfSome told_files IsAnsweredThen
+  answers_of NoCommand c d = told told_files _ (λ files h n m n5. absurd (subst (λ w. AreAccepted w files limits) c.0 h))
+  answers_of (Failed file) c d = told told_files _ (λ files h n m n5. absurd (n c.2.rose))
+  answers_of (Refused refusal) c d = told_more told_files (λ files. IsRefused (Some c.0) files limits refusal) _
+      (λ files k h n m n5. absurd (not_refused limits files c.0 refusal k (subst (λ w. AreAccepted w files limits) c.1 h))) (told_for c.0 c.1 (λ files. IsRefused (Some c.0) files limits refusal) c.2.1)
+  answers_of NoMemory c d = told told_files _ (λ files h n m n5. absurd (n5 d.0))
+  answers_of (Done answer text) c d = told told_files _ (λ files h n m n5. elim d [
     | inl w ↦ subst IsAnswer (sym w.0) (is_answer answer)
     | inr w ↦ absurd (m w.1.rose)
   ])
 
   pub done_of : (ending : Ending) → Caused shelf old new command limits ending → IsReportedAs out err out_before out_after err_before err_after ending status → IsAnswer status →
       (err_after ≡ err_before) × ((answer : Answer) × (output : List ℕ) × (status ≡ status_of answer) × TookAll out out_before out_after output
-      × IfSome (shelf.held old) (λ files. IsAnswered command files limits answer output))
+      × IfSome told_files (λ files. IsAnswered command files limits answer output))
   done_of NoCommand c d h = absurd (no_answer status 64 d.0 (λ k. omega arith) (λ k. omega arith) h)
   done_of (Failed file) c d h = absurd (no_answer status 3 d.0 (λ k. omega arith) (λ k. omega arith) h)
   done_of (Refused refusal) c d h = absurd (no_answer status 2 d.0 (λ k. omega arith) (λ k. omega arith) h)
@@ -221,22 +229,22 @@ module _ {K O E : Type 0} (shelf : Shelf.Ghosts K) (out : Sink.Ghosts O) (err : 
       vec_items text,
       w.0,
       w.1,
-      told_more (shelf.held old) (λ files. IsAnswered (Some c.0) files limits answer (vec_items text)) _
-          (λ files a. subst (λ x. IsAnswered x files limits answer (vec_items text)) (sym c.1) a) c.2.1,
+      told_more told_files (λ files. IsAnswered (Some c.0) files limits answer (vec_items text)) _
+          (λ files a. subst (λ x. IsAnswered x files limits answer (vec_items text)) (sym c.1) a) (told_for c.0 c.1 (λ files. IsAnswered (Some c.0) files limits answer (vec_items text)) c.2.1),
     ),
   )
   done_of (Done answer text) c (inr w) h = absurd (no_answer status 4 w.0 (λ k. omega arith) (λ k. omega arith) h)
 
   pub stops_of : (ending : Ending) → Caused shelf old new command limits ending → IsReportedAs out err out_before out_after err_before err_after ending status → status ≡ 2 →
-      (refusal : Refusal) × Sent err err_before err_after (refused_text refusal) × IfSome (shelf.held old) (λ files. IsRefused command files limits refusal)
+      (refusal : Refusal) × Sent err err_before err_after (refused_text refusal) × IfSome told_files (λ files. IsRefused command files limits refusal)
       × StopsReading shelf old new command limits refusal
   stops_of NoCommand c d two = absurd (omega arith)
   stops_of (Failed file) c d two = absurd (omega arith)
   stops_of (Refused refusal) c d two = (
     refusal,
     d.2,
-    told_more (shelf.held old) (λ files. IsRefused (Some c.0) files limits refusal) _
-        (λ files r. subst (λ w. IsRefused w files limits refusal) (sym c.1) r) c.2.1,
+    told_more told_files (λ files. IsRefused (Some c.0) files limits refusal) _
+        (λ files r. subst (λ w. IsRefused w files limits refusal) (sym c.1) r) (told_for c.0 c.1 (λ files. IsRefused (Some c.0) files limits refusal) c.2.1),
     subst (λ w. StopsReading shelf old new w limits refusal) (sym c.1) c.2.2,
   )
   stops_of NoMemory c d two = absurd (omega arith)
@@ -245,7 +253,7 @@ module _ {K O E : Type 0} (shelf : Shelf.Ghosts K) (out : Sink.Ghosts O) (err : 
 
   pub unwritten_of : (ending : Ending) → Caused shelf old new command limits ending → IsReportedAs out err out_before out_after err_before err_after ending status → status ≡ 4 →
       Sent err err_before err_after write_failed × ((answer : Answer) × (output : List ℕ) × TookLess out out_before out_after output
-      × IfSome (shelf.held old) (λ files. IsAnswered command files limits answer output))
+      × IfSome told_files (λ files. IsAnswered command files limits answer output))
   unwritten_of NoCommand c d four = absurd (omega arith)
   unwritten_of (Failed file) c d four = absurd (omega arith)
   unwritten_of (Refused refusal) c d four = absurd (omega arith)
@@ -257,8 +265,8 @@ module _ {K O E : Type 0} (shelf : Shelf.Ghosts K) (out : Sink.Ghosts O) (err : 
       answer,
       vec_items text,
       w.1,
-      told_more (shelf.held old) (λ files. IsAnswered (Some c.0) files limits answer (vec_items text)) _
-          (λ files a. subst (λ x. IsAnswered x files limits answer (vec_items text)) (sym c.1) a) c.2.1,
+      told_more told_files (λ files. IsAnswered (Some c.0) files limits answer (vec_items text)) _
+          (λ files a. subst (λ x. IsAnswered x files limits answer (vec_items text)) (sym c.1) a) (told_for c.0 c.1 (λ files. IsAnswered (Some c.0) files limits answer (vec_items text)) c.2.1),
     ),
   )
 
@@ -326,6 +334,19 @@ module _ {K O E : Type 0} (shelf : Shelf.Ghosts K) (out : Sink.Ghosts O) (err : 
   untouched_of (Done answer text) (inl w) none n4 = absurd (none (subst IsAnswer (sym w.0) (is_answer answer)))
   untouched_of (Done answer text) (inr w) none n4 = absurd (n4 w.0)
 
+  -- an ending at no file that could not be read
+  not_unread : (ending : Ending) → IsNoFailure ending → IsReportedAs out err out_before out_after err_before err_after ending status → status ≢ 3
+  not_unread NoCommand f d three = let s = d.0 in omega arith
+  not_unread (Failed file) f d three = f
+  not_unread (Refused refusal) f d three = let s = d.0 in omega arith
+  not_unread NoMemory f d three = let s = d.0 in omega arith
+  not_unread (Done answer text) f (inl w) three = not_three answer (sym w.0 ∙ three)
+  not_unread (Done answer text) f (inr w) three = let four = w.0 in omega arith
+
+  pub demo_of : (ending : Ending) → LeavesShelf old new command ending → IsReportedAs out err out_before out_after err_before err_after ending status →
+      (n : ℕ) → command ≡ Some (Demonstrating n) → (new ≡ old) × (status ≢ 3)
+  demo_of ending left d n e = ((left n e).0, not_unread ending (left n e).1 d)
+
   abbrev IsOneOf : ℕ → Type 0
   IsOneOf n = IsTrue (list_any (λ s. s == n) (0 ∷ 1 ∷ 2 ∷ 3 ∷ 4 ∷ 5 ∷ 64 ∷ []))
 
@@ -339,9 +360,9 @@ module _ {K O E : Type 0} (shelf : Shelf.Ghosts K) (out : Sink.Ghosts O) (err : 
   one_of (Done answer text) (inr w) = subst IsOneOf (sym w.0) refl
 
   -- the whole contract
-  run_of : (ending : Ending) → Caused shelf old new command limits ending → IsReportedAs out err out_before out_after err_before err_after ending status →
+  run_of : (ending : Ending) → Caused shelf old new command limits ending → LeavesShelf old new command ending → IsReportedAs out err out_before out_after err_before err_after ending status →
       IsRun shelf out err command limits old new out_before out_after err_before err_after status
-  run_of ending c d = record {
+  run_of ending c left d = record {
     written = written_of ending c d;
     refuses = refuses_of ending c d;
     answers = answers_of ending c d;
@@ -352,6 +373,7 @@ module _ {K O E : Type 0} (shelf : Shelf.Ghosts K) (out : Sink.Ghosts O) (err : 
     unwritten = unwritten_of ending c d;
     wrote = wrote_of ending d;
     leaves_files = leaves_of ending c d;
+    demo = demo_of ending left d;
     no_memory = no_memory_of ending d;
     no_command = no_command_of ending c d;
     usage_text = usage_of ending d;
@@ -360,11 +382,11 @@ module _ {K O E : Type 0} (shelf : Shelf.Ghosts K) (out : Sink.Ghosts O) (err : 
   }
 
   -- it holds also where no memory was to be had for the text of a refusal: such a run may end as one that wants memory
-  pub run_told : (ending : Ending) → Caused shelf old new command limits ending → IsTold out err out_before out_after err_before err_after ending status →
+  pub run_told : (ending : Ending) → Caused shelf old new command limits ending → LeavesShelf old new command ending → IsTold out err out_before out_after err_before err_after ending status →
       IsRun shelf out err command limits old new out_before out_after err_before err_after status
-  run_told NoCommand c d = run_of NoCommand c d
-  run_told (Failed file) c d = run_of (Failed file) c d
-  run_told (Refused refusal) c (inl d) = run_of (Refused refusal) c d
-  run_told (Refused refusal) c (inr d) = run_of NoMemory (c.0, c.1, c.2.0) d
-  run_told NoMemory c d = run_of NoMemory c d
-  run_told (Done answer text) c d = run_of (Done answer text) c d
+  run_told NoCommand c left d = run_of NoCommand c left d
+  run_told (Failed file) c left d = run_of (Failed file) c left d
+  run_told (Refused refusal) c left (inl d) = run_of (Refused refusal) c left d
+  run_told (Refused refusal) c left (inr d) = run_of NoMemory (c.0, c.1, c.2.0) left d
+  run_told NoMemory c left d = run_of NoMemory c left d
+  run_told (Done answer text) c left d = run_of (Done answer text) c left d

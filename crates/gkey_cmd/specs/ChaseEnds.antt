@@ -11,6 +11,7 @@ use Rattle.key_file.specs.Name.{is_name}
 use Rattle.key_file.specs.Numbered.{names_for}
 use Rattle.term_text.specs.ReadBack.{CanBeSpelled}
 use Rattle.gkey_cmd.specs.Proved.{IsProofText}
+use Rattle.gkey_cmd.specs.Demo.{IsDemoText}
 use Rattle.gkey_cmd.specs.declared.ending.Refusal.TheVariants.{MorePairsThan}
 use Rattle.gkey_cmd.specs.declared.ending.Ending.{Ending}
 use Rattle.gkey_cmd.specs.declared.ending.Ending.TheVariants.{NoCommand, Failed, Refused, NoMemory, Done}
@@ -34,9 +35,12 @@ abbrev pub IsProofOfFiles : List Triple → List KeyShape → List ℕ → Type 
 IsProofOfFiles triples keys text =
     All CanBeSpelled (names_for triples keys) → All (λ name. is_name name ≡ true) (map (λ (k : KeyShape). k.name) keys) → IsProofText triples keys text
 
--- so ends a match, and so a proof
+-- so ends a match, so a proof, and so a demo
 abbrev pub MatchEnds : List Triple → List KeyShape → ℕ → Result (Vec ℕ Global) Ending → Type 0
 MatchEnds triples keys limit result = ChaseEnds IsReport triples keys limit result
 
 abbrev pub ProveEnds : List Triple → List KeyShape → ℕ → Result (Vec ℕ Global) Ending → Type 0
 ProveEnds triples keys limit result = ChaseEnds IsProofOfFiles triples keys limit result
+
+abbrev pub DemoEnds : List Triple → List KeyShape → ℕ → Result (Vec ℕ Global) Ending → Type 0
+DemoEnds triples keys limit result = ChaseEnds IsDemoText triples keys limit result

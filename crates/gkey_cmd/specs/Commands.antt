@@ -1,26 +1,50 @@
 -- The commands, and the words that ask for them (this project's own).
-use Rattle.std.specs.Prelude.{List, [], ◌∷◌, ℕ, Option, Some, None, codes, bytes_eq, if◌then◌else◌, ◌≡◌}
+use Rattle.std.specs.Prelude.{List, [], ◌∷◌, ℕ, zero, suc, ◌<◌, ◌≤◌, Option, Some, None, option_map, is_some, ◌&&◌, codes, bytes_eq, if◌then◌else◌, ◌≡◌}
+use Rattle.std.specs.Fmt.{decimal}
 use Rattle.gkey_cmd.specs.declared.file.File.{File}
 use Rattle.gkey_cmd.specs.declared.file.File.TheVariants.{Graph, Keys, Proof}
 use Rattle.gkey_cmd.specs.declared.words.Command.{Command}
-use Rattle.gkey_cmd.specs.declared.words.Command.TheVariants.{Match, Prove, Check, Convert}
+use Rattle.gkey_cmd.specs.declared.words.Command.TheVariants.{Match, Prove, Check, Convert, Demo}
 
--- a command with the names of its files
+-- a command with the names of its files, or with the number of a demo
 pub data Wanted : Type 0 where
   Matching : (graph keys : List ℕ) → Wanted
   Proving : (graph keys : List ℕ) → Wanted
   Checking : (graph keys proof : List ℕ) → Wanted
   Converting : (proof : List ℕ) → Wanted
+  Demonstrating : (n : ℕ) → Wanted
 
--- the table of the accepted words: `match GRAPH KEYS`, `prove GRAPH KEYS`, `check GRAPH KEYS PROOF`, `convert PROOF`
-abbrev pub wanted : List (List ℕ) → Option Wanted
-wanted (command ∷ proof ∷ []) = if bytes_eq command (codes "convert") then Some (Converting proof) else None
-wanted (command ∷ graph ∷ keys ∷ []) =
+-- the number from 1 to the most that a word is in decimal, without sign and without leading zero
+unfoldable pub number_to : (most : ℕ) (word : List ℕ) → Option ℕ
+number_to zero word = None
+number_to (suc n) word = if bytes_eq (decimal (suc n)) word then Some (suc n) else number_to n word
+
+-- a command with a chase, if the word is the name of one
+abbrev pub chase_of : (command graph keys : List ℕ) → Option Wanted
+chase_of command graph keys =
     if bytes_eq command (codes "match") then Some (Matching graph keys)
     else if bytes_eq command (codes "prove") then Some (Proving graph keys)
     else None
+
+-- the table of the accepted words: `match GRAPH KEYS` and `match --workers N GRAPH KEYS`, with `prove` in the same two ways,
+-- `check GRAPH KEYS PROOF`, `convert PROOF` and `demo N`
+abbrev pub wanted : List (List ℕ) → Option Wanted
+wanted (command ∷ argument ∷ []) =
+    if bytes_eq command (codes "convert") then Some (Converting argument)
+    else if bytes_eq command (codes "demo") then option_map Demonstrating (number_to 100000 argument)
+    else None
+wanted (command ∷ graph ∷ keys ∷ []) = chase_of command graph keys
 wanted (command ∷ graph ∷ keys ∷ proof ∷ []) = if bytes_eq command (codes "check") then Some (Checking graph keys proof) else None
+wanted (command ∷ option ∷ workers ∷ graph ∷ keys ∷ []) =
+    if bytes_eq option (codes "--workers") && is_some (number_to 64 workers) then chase_of command graph keys else None
 wanted words = None
+
+-- the names that a demo's own two texts go by
+abbrev pub demo_graph_name : List ℕ
+demo_graph_name = codes "graph"
+
+abbrev pub demo_keys_name : List ℕ
+demo_keys_name = codes "keys"
 
 -- the files of a command with their names, in the order in which they are read
 abbrev pub files_of : Wanted → List (File × List ℕ)
@@ -28,10 +52,32 @@ files_of (Matching graph keys) = (Graph, graph) ∷ (Keys, keys) ∷ []
 files_of (Proving graph keys) = (Graph, graph) ∷ (Keys, keys) ∷ []
 files_of (Checking graph keys proof) = (Graph, graph) ∷ (Keys, keys) ∷ (Proof, proof) ∷ []
 files_of (Converting proof) = (Proof, proof) ∷ []
+files_of (Demonstrating n) = (Graph, demo_graph_name) ∷ (Keys, demo_keys_name) ∷ []
 
--- the command for these words; the words of this version name no workers, and then there are 4
+-- how many workers the words of a chase ask for: 4 where they name none
+abbrev pub workers_of : List (List ℕ) → Option ℕ
+workers_of (command ∷ option ∷ workers ∷ graph ∷ keys ∷ []) = number_to 64 workers
+workers_of words = Some 4
+
+-- the words ask for this command, with so many workers, of which there are 1 to 64
+pub record IsChaseCommand (words : List (List ℕ)) (command : Wanted) (workers : ℕ) : Type 0 where
+  pub asked : wanted words ≡ Some command
+  pub named : workers_of words ≡ Some workers
+  pub some : 0 < workers
+  pub few : workers ≤ 64
+
+-- it is this command with a chase, and has so many workers
+abbrev pub IsChaseOf : Option Wanted → (workers : ℕ) → Command → Type 0
+IsChaseOf asked workers (Match w graph keys) = (asked ≡ Some (Matching graph.now keys.now)) × (w ≡ workers)
+IsChaseOf asked workers (Prove w graph keys) = (asked ≡ Some (Proving graph.now keys.now)) × (w ≡ workers)
+IsChaseOf asked workers (Check graph keys proof) = ⊥
+IsChaseOf asked workers (Convert proof) = ⊥
+IsChaseOf asked workers (Demo n) = ⊥
+
+-- the command for these words
 abbrev pub IsCommand : List (List ℕ) → Command → Type 0
-IsCommand words (Match workers graph keys) = (wanted words ≡ Some (Matching graph.now keys.now)) × (workers ≡ 4)
-IsCommand words (Prove workers graph keys) = (wanted words ≡ Some (Proving graph.now keys.now)) × (workers ≡ 4)
+IsCommand words (Match workers graph keys) = IsChaseCommand words (Matching graph.now keys.now) workers
+IsCommand words (Prove workers graph keys) = IsChaseCommand words (Proving graph.now keys.now) workers
 IsCommand words (Check graph keys proof) = wanted words ≡ Some (Checking graph.now keys.now proof.now)
 IsCommand words (Convert proof) = wanted words ≡ Some (Converting proof.now)
+IsCommand words (Demo n) = (wanted words ≡ Some (Demonstrating n)) × (0 < n) × (n ≤ 100000)

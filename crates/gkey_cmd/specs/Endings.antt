@@ -1,10 +1,12 @@
 -- How a run ends before anything is written, and what is written then: this project's own words.
-use Rattle.std.specs.Prelude.{List, ℕ, ◌≡◌, ◌⊎◌, Option, Some, None, IfSome, vec_items}
+use Rattle.std.specs.Prelude.{List, ℕ, ◌≡◌, ◌⊎◌, Option, Some, None, Ok, IfSome, vec_items, ⊤}
 use Rattle.gk_base.specs.declared.limits.Limits.{Limits}
 use Rattle.gk_base.specs.declared.read_fault.ReadRefusal.{ReadRefusal}
 use Rattle.gk_base.specs.declared.stop.Stop.{Stop}
 use Rattle.gk_base.specs.declared.stop.Stop.TheVariants as stop
+use Rattle.gk_base.specs.declared.term.Triple.{Triple}
 use Rattle.gk_io.specs.FailedAt.{FailedAt}
+use Rattle.gk_io.specs.Files.{bytes_of}
 use Rattle.gk_io.specs.declared.file_fault.FileFault.{FileFault}
 use Rattle.gk_io.specs.declared.file_fault.FileFault.TheVariants as fault
 use Rattle.gk_io.specs.declared.shelf.Shelf
@@ -12,13 +14,17 @@ use Rattle.gk_io.specs.declared.sink.Sink
 use Rattle.key_lang.specs.declared.fault.KeyRefusal.{KeyRefusal}
 use Rattle.proof_graph.specs.declared.fault.ProofRefusal.{ProofRefusal}
 use Rattle.graph_rows.specs.GraphFile.{GraphStops}
-use Rattle.gkey_cmd.specs.Commands.{Wanted}
+use Rattle.graph_rows.specs.Rows.{StandFor}
+use Rattle.graph_rows.specs.declared.rows.Rows.{Rows}
+use Rattle.key_file.specs.KeyShape.{KeyShape}
+use Rattle.gkey_cmd.specs.Commands.{Wanted, Demonstrating}
 use Rattle.gkey_cmd.specs.Texts.{usage, out_of_memory, write_failed, read_failed, refused_text}
-use Rattle.gkey_cmd.specs.Reading.{IsRefusedSo, AllAccepted}
+use Rattle.gkey_cmd.specs.Reading.{NamedFiles, GraphSays, KeyFileSays, IsRefusedSo, AllAccepted}
 use Rattle.gkey_cmd.specs.HowFar.{KeysLeft, ProofLeft, LeavesFiles, StopsReading}
 use Rattle.gkey_cmd.specs.Failing.{HasFailed}
 use Rattle.gkey_cmd.specs.Sent.{TookAll, TookLess, Sent}
 use Rattle.gkey_cmd.specs.Written.{status_of, IsRefused, IsAnswered}
+use Rattle.gkey_cmd.specs.Demo.{demo_files, files_for}
 use Rattle.gkey_cmd.specs.declared.file.File.{File}
 use Rattle.gkey_cmd.specs.declared.file.File.TheVariants.{Graph, Keys, Proof}
 use Rattle.gkey_cmd.specs.declared.ending.Refusal.{Refusal}
@@ -71,28 +77,76 @@ EndsAt shelf shelf_before shelf_after limits file name (Done answer text) = ⊥
 
 -- ---- how a run ends
 
--- How a command ends before anything is written. A shelf that tells no files says nothing of them.
-abbrev pub Stopped : {K : Type 0} (shelf : Shelf.Ghosts K) (shelf_before shelf_after : K) → Wanted → Limits → Ending → Type 0
-Stopped shelf shelf_before shelf_after command limits NoCommand = ⊥
-Stopped shelf shelf_before shelf_after command limits (Failed file) = HasFailed shelf shelf_before shelf_after command limits file
-Stopped shelf shelf_before shelf_after command limits (Refused refusal) = (shelf.faults shelf_after ≡ shelf.faults shelf_before)
-    × IfSome (shelf.held shelf_before) (λ files. IsRefused (Some command) files limits refusal)
+-- How a command ends before anything is written, where the files are told that it goes by, or are not. Where they are not,
+-- nothing is said of them.
+abbrev pub StoppedOver : {K : Type 0} (shelf : Shelf.Ghosts K) (shelf_before shelf_after : K) (told : Option NamedFiles) → Wanted → Limits → Ending → Type 0
+StoppedOver shelf shelf_before shelf_after told command limits NoCommand = ⊥
+StoppedOver shelf shelf_before shelf_after told command limits (Failed file) = HasFailed shelf shelf_before shelf_after command limits file
+StoppedOver shelf shelf_before shelf_after told command limits (Refused refusal) = (shelf.faults shelf_after ≡ shelf.faults shelf_before)
+    × IfSome told (λ files. IsRefused (Some command) files limits refusal)
     × StopsReading shelf shelf_before shelf_after (Some command) limits refusal
-Stopped shelf shelf_before shelf_after command limits NoMemory = shelf.faults shelf_after ≡ shelf.faults shelf_before
-Stopped shelf shelf_before shelf_after command limits (Done answer text) = (shelf.faults shelf_after ≡ shelf.faults shelf_before)
-    × IfSome (shelf.held shelf_before) (λ files. IsAnswered (Some command) files limits answer (vec_items text))
+StoppedOver shelf shelf_before shelf_after told command limits NoMemory = shelf.faults shelf_after ≡ shelf.faults shelf_before
+StoppedOver shelf shelf_before shelf_after told command limits (Done answer text) = (shelf.faults shelf_after ≡ shelf.faults shelf_before)
+    × IfSome told (λ files. IsAnswered (Some command) files limits answer (vec_items text))
     × LeavesFiles shelf shelf_before shelf_after command limits
+
+-- so ends a command that goes by the files of its shelf
+abbrev pub Stopped : {K : Type 0} (shelf : Shelf.Ghosts K) (shelf_before shelf_after : K) → Wanted → Limits → Ending → Type 0
+Stopped shelf shelf_before shelf_after command limits ending = StoppedOver shelf shelf_before shelf_after (shelf.held shelf_before) command limits ending
+
+-- so ends a demo, which goes by its own texts
+abbrev pub DemoStops : (n : ℕ) → Limits → Ending → Type 0
+DemoStops n limits NoCommand = ⊥
+DemoStops n limits (Failed file) = ⊥
+DemoStops n limits (Refused refusal) = IsRefused (Some (Demonstrating n)) (demo_files n) limits refusal
+DemoStops n limits NoMemory = ⊤
+DemoStops n limits (Done answer text) = IsAnswered (Some (Demonstrating n)) (demo_files n) limits answer (vec_items text)
+
+-- it is no answer
+abbrev pub HasNoAnswer : Ending → Type 0
+HasNoAnswer NoCommand = ⊤
+HasNoAnswer (Failed file) = ⊤
+HasNoAnswer (Refused refusal) = ⊤
+HasNoAnswer NoMemory = ⊤
+HasNoAnswer (Done answer text) = ⊥
 
 -- how a run ends before anything is written
 abbrev pub Caused : {K : Type 0} (shelf : Shelf.Ghosts K) (shelf_before shelf_after : K) → Option Wanted → Limits → Ending → Type 0
 Caused shelf shelf_before shelf_after command limits NoCommand = (command ≡ None) × (shelf.faults shelf_after ≡ shelf.faults shelf_before)
-Caused shelf shelf_before shelf_after command limits ending = (wanted : Wanted) × (command ≡ Some wanted) × Stopped shelf shelf_before shelf_after wanted limits ending
+Caused shelf shelf_before shelf_after command limits ending = (wanted : Wanted) × (command ≡ Some wanted)
+    × StoppedOver shelf shelf_before shelf_after (files_for (Some wanted) (shelf.held shelf_before)) wanted limits ending
+
+-- it is none at a file that could not be read
+abbrev pub IsNoFailure : Ending → Type 0
+IsNoFailure NoCommand = ⊤
+IsNoFailure (Failed file) = ⊥
+IsNoFailure (Refused refusal) = ⊤
+IsNoFailure NoMemory = ⊤
+IsNoFailure (Done answer text) = ⊤
+
+-- a demo leaves the shelf as it was, and does not end at a file that could not be read
+abbrev pub LeavesShelf : {K : Type 0} (shelf_before shelf_after : K) → Option Wanted → Ending → Type 0
+LeavesShelf shelf_before shelf_after command ending = (n : ℕ) → command ≡ Some (Demonstrating n) → (shelf_after ≡ shelf_before) × IsNoFailure ending
 
 -- the files so far were read and accepted
 pub record ReadSoFar {K : Type 0} (shelf : Shelf.Ghosts K) (shelf_before shelf_now : K) (limits : Limits) (so_far : List (File × List ℕ)) : Type 0 where
   pub count : shelf.faults shelf_now ≡ shelf.faults shelf_before
   pub held : shelf.held shelf_now ≡ shelf.held shelf_before
   pub accepted : IfSome (shelf.held shelf_before) (λ files. AllAccepted limits files so_far)
+
+-- The graph and the key file of these names were read and are accepted: the rows stand for triples that are no more than the
+-- limit, and the key file was left as it is to be left.
+pub record ReadBothAs {K : Type 0} (shelf : Shelf.Ghosts K) (shelf_before shelf_now : K) (limits : Limits) (graph keys : List ℕ) (rows : Rows) (key_list : List KeyShape) (triples : List Triple) : Type 0 where
+  pub stand : StandFor rows triples
+  pub count : shelf.faults shelf_now ≡ shelf.faults shelf_before
+  pub in_graph : IfSome (shelf.held shelf_before) (λ files. GraphSays limits (bytes_of files graph) (Ok triples))
+  pub in_keys : IfSome (shelf.held shelf_before) (λ files. KeyFileSays limits (bytes_of files keys) (Ok key_list))
+  pub left : KeysLeft shelf shelf_before shelf_now limits keys
+
+-- the same of some triples
+abbrev pub ReadBoth : {K : Type 0} (shelf : Shelf.Ghosts K) (shelf_before shelf_now : K) → Limits → (graph keys : List ℕ) → Rows → List KeyShape → Type 0
+ReadBoth shelf shelf_before shelf_now limits graph keys rows key_list =
+    (triples : List Triple) × ReadBothAs shelf shelf_before shelf_now limits graph keys rows key_list triples
 
 -- ---- what is written at the end
 

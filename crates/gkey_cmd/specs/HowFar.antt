@@ -4,7 +4,7 @@ use Rattle.gk_base.specs.declared.limits.Limits.{Limits}
 use Rattle.gk_io.specs.Files.{bytes_of}
 use Rattle.gk_io.specs.declared.shelf.Shelf
 use Rattle.graph_rows.specs.GraphFile.{GraphStops}
-use Rattle.gkey_cmd.specs.Commands.{Wanted, Matching, Proving, Checking, Converting}
+use Rattle.gkey_cmd.specs.Commands.{Wanted, Matching, Proving, Checking, Converting, Demonstrating}
 use Rattle.gkey_cmd.specs.declared.ending.Refusal.{Refusal}
 use Rattle.gkey_cmd.specs.declared.ending.Refusal.TheVariants.{InGraph, InKeys, InProof, MorePairsThan}
 
@@ -28,12 +28,13 @@ KeysLeft shelf shelf_before shelf_after limits name = FileLeft shelf shelf_befor
 abbrev pub ProofLeft : {K : Type 0} (shelf : Shelf.Ghosts K) (shelf_before shelf_after : K) → Limits → (name : List ℕ) → Type 0
 ProofLeft shelf shelf_before shelf_after limits name = FileLeft shelf shelf_before shelf_after limits.bytes name
 
--- how far the files of a command are read whose files are all read
+-- how far the files of a command are read whose files are all read; a demo leaves the shelf as it was
 abbrev pub LeavesFiles : {K : Type 0} (shelf : Shelf.Ghosts K) (shelf_before shelf_after : K) → Wanted → Limits → Type 0
 LeavesFiles shelf shelf_before shelf_after (Matching graph keys) limits = KeysLeft shelf shelf_before shelf_after limits keys
 LeavesFiles shelf shelf_before shelf_after (Proving graph keys) limits = KeysLeft shelf shelf_before shelf_after limits keys
 LeavesFiles shelf shelf_before shelf_after (Checking graph keys proof) limits = ProofLeft shelf shelf_before shelf_after limits proof
 LeavesFiles shelf shelf_before shelf_after (Converting proof) limits = ProofLeft shelf shelf_before shelf_after limits proof
+LeavesFiles shelf shelf_before shelf_after (Demonstrating n) limits = shelf_after ≡ shelf_before
 
 -- how far the files of a chase are read that is refused: a refused graph is left soon, and the key file is left where it, or
 -- what comes after it, is refused
@@ -44,7 +45,7 @@ ChaseStops shelf shelf_before shelf_after graph keys limits (InProof refusal) = 
 ChaseStops shelf shelf_before shelf_after graph keys limits (MorePairsThan limit) = KeysLeft shelf shelf_before shelf_after limits keys
 
 -- how far the files of a run are read that is refused: a refused graph is left soon, and a key file or a proof file is left
--- where it, or what comes after it, is refused
+-- where it, or what comes after it, is refused; a demo leaves the shelf as it was
 abbrev pub StopsReading : {K : Type 0} (shelf : Shelf.Ghosts K) (shelf_before shelf_after : K) → Option Wanted → Limits → Refusal → Type 0
 StopsReading shelf shelf_before shelf_after None limits refusal = ⊥
 StopsReading shelf shelf_before shelf_after (Some (Matching graph keys)) limits refusal = ChaseStops shelf shelf_before shelf_after graph keys limits refusal
@@ -57,3 +58,4 @@ StopsReading shelf shelf_before shelf_after (Some (Converting proof)) limits (In
 StopsReading shelf shelf_before shelf_after (Some (Converting proof)) limits (InKeys refusal) = ⊥
 StopsReading shelf shelf_before shelf_after (Some (Converting proof)) limits (InProof refusal) = ProofLeft shelf shelf_before shelf_after limits proof
 StopsReading shelf shelf_before shelf_after (Some (Converting proof)) limits (MorePairsThan limit) = ⊥
+StopsReading shelf shelf_before shelf_after (Some (Demonstrating n)) limits refusal = shelf_after ≡ shelf_before

@@ -6,6 +6,7 @@ pub mod HowFar
 pub mod Failing
 pub mod Sent
 pub mod Matched
+pub mod Demo
 pub mod Proved
 pub mod Checked
 pub mod Written

@@ -11,7 +11,7 @@ use Rattle.gkey_cmd.specs.declared.ending.Refusal.TheVariants.{InGraph, InKeys, 
 
 -- the usage text
 abbrev pub usage : List ℕ
-usage = codes "usage:\n  gkey match GRAPH KEYS\n  gkey prove GRAPH KEYS\n  gkey check GRAPH KEYS PROOF\n  gkey convert PROOF\n"
+usage = codes "usage:\n  gkey match [--workers N] GRAPH KEYS\n  gkey prove [--workers N] GRAPH KEYS\n  gkey check GRAPH KEYS PROOF\n  gkey convert PROOF\n  gkey demo N\n"
 
 -- the texts of want of memory and of a failed write
 abbrev pub out_of_memory : List ℕ

@@ -1,10 +1,11 @@
--- What a run writes: the relation of its words, its files and its limits to its status, its output and its error text.
+-- What a run writes: the relation of its words, its files and its limits to its status, its output and its error text. The
+-- files are those that its command goes by.
 use Rattle.std.specs.Prelude.{List, [], ℕ, ◌≡◌, ◌⊎◌, ◌≤◌, ◌^◌, Option, Some, None, Ok}
 use Rattle.gk_base.specs.declared.limits.Limits.{Limits}
 use Rattle.gk_base.specs.declared.term.Triple.{Triple}
 use Rattle.gk_io.specs.Files.{bytes_of}
 use Rattle.key_file.specs.KeyShape.{KeyShape}
-use Rattle.gkey_cmd.specs.Commands.{Wanted, Matching, Proving, Checking, Converting, files_of}
+use Rattle.gkey_cmd.specs.Commands.{Wanted, Matching, Proving, Checking, Converting, Demonstrating, demo_graph_name, demo_keys_name, files_of}
 use Rattle.gkey_cmd.specs.Texts.{usage, refused_text}
 use Rattle.gkey_cmd.specs.Reading.{NamedFiles, GraphSays, KeyFileSays, ProofFileSays, AllAccepted, FirstRefused}
 use Rattle.proof_graph.specs.Steps.{StepShape}
@@ -13,6 +14,7 @@ use Rattle.proof_check.specs.Verdict.{verdict}
 use Rattle.gkey_cmd.specs.Matched.{IsReport, HasTooManyPairs}
 use Rattle.gkey_cmd.specs.Proved.{IsProofText}
 use Rattle.gkey_cmd.specs.Checked.{verdict_answer, verdict_text}
+use Rattle.gkey_cmd.specs.Demo.{IsDemoText}
 use Rattle.gkey_cmd.specs.declared.ending.Answer.{Answer}
 use Rattle.gkey_cmd.specs.declared.ending.Answer.TheVariants.{Given, NotAccepted}
 use Rattle.gkey_cmd.specs.declared.ending.Refusal.{Refusal}
@@ -46,6 +48,7 @@ HasMorePairs limits files (Matching graph keys) = ChaseHasMorePairs limits files
 HasMorePairs limits files (Proving graph keys) = ChaseHasMorePairs limits files graph keys
 HasMorePairs limits files (Checking graph keys proof) = ⊥
 HasMorePairs limits files (Converting proof) = ⊥
+HasMorePairs limits files (Demonstrating n) = ChaseHasMorePairs limits files demo_graph_name demo_keys_name
 
 -- the answer of a command whose files are accepted and lead to no more pairs than the limit, and its output
 abbrev pub Answers : Limits → NamedFiles → Wanted → Answer → List ℕ → Type 0
@@ -64,6 +67,10 @@ Answers limits files (Checking graph keys proof) answer output =
 Answers limits files (Converting proof) Given output =
     (steps : List StepShape) × ProofFileSays limits (bytes_of files proof) (Ok steps) × (output ≡ proof_text steps)
 Answers limits files (Converting proof) NotAccepted output = ⊥
+Answers limits files (Demonstrating n) Given output =
+    (triples : List Triple) × (key_list : List KeyShape) × GraphSays limits (bytes_of files demo_graph_name) (Ok triples)
+    × KeyFileSays limits (bytes_of files demo_keys_name) (Ok key_list) × IsDemoText triples key_list output
+Answers limits files (Demonstrating n) NotAccepted output = ⊥
 
 -- The words ask for a command, and it is refused so: by the first of its files that is not accepted, or, where all are,
 -- by too many pairs.

@@ -5,7 +5,7 @@
 //! - `words`: the commands and the words that ask for them
 //! - `file`: the files that a command reads
 //! - `order`: the order in which they are read, and what comes after the last
-//! - `matched`, `proved`, `checked`, `converted`: what each command prints
+//! - `matched`, `proved`, `checked`, `converted`, `counted`: what each command prints
 //! - `ending`: how a run ends, and what it leaves
 //! - `texts`: each status with its meaning and the text for the error stream
 //! - `top`: `run`
@@ -13,6 +13,7 @@
 
 mod checked;
 mod converted;
+mod counted;
 mod ending;
 mod file;
 mod matched;
@@ -23,5 +24,5 @@ mod top;
 mod words;
 
 pub use texts::{NO_MEMORY, NO_WORDS};
-pub use top::{run, run_with};
+pub use top::{run, run_gated};
 pub use words::{Command, read_words};

@@ -1,26 +1,38 @@
 //! The order in which the files of a command are read, up to the first that fails or is refused, and what comes after the last.
 
-ghost use Rattle.std.specs.Prelude.{◌≡◌, ◌<◌, ◌^◌, Ok, length, IfOk, IfErr, OnOk, IfSome, MatchResult};
+ghost use Rattle.std.specs.Prelude.{◌≡◌, ◌<◌, ◌≤◌, ◌^◌, Ok, length, IfOk, IfErr, OnOk, IfSome, MatchResult};
 ghost use Rattle.gk_io.specs.Files.{bytes_of};
 ghost use Rattle.gkey_cmd.specs.Commands.{Matching, Proving, Checking, Converting};
 ghost use Rattle.gkey_cmd.specs.Reading.{KeyFileSays, ProofFileSays};
 ghost use Rattle.gkey_cmd.specs.Written.{AreAtMostStandard};
 ghost use Rattle.gkey_cmd.specs.HowFar.{KeysLeft, ProofLeft};
-ghost use Rattle.gkey_cmd.specs.Endings.{EndsAt, Stopped};
+ghost use Rattle.graph_rows.specs.Rows.{AreFew};
+ghost use Rattle.gkey_cmd.specs.Demo.{demo_files};
+ghost use Rattle.gkey_cmd.specs.Endings.{EndsAt, Stopped, DemoStops, HasNoAnswer, ReadBoth};
 
 use crate::checked::check_files;
 use crate::converted::convert_file;
+use crate::counted::count_files;
 use crate::ending::{Answer, Ending};
 use crate::file::File;
 use crate::matched::match_files;
 use crate::proved::prove_files;
-use gk_base::{Limits, Stop, Text};
-use gk_io::{Failed, Shelf};
-use graph_rows::{load, read_rows};
+use demo_graph::demo_texts;
+use gk_base::{Limits, NoMemory, Stop, Text};
+use gk_io::{Failed, Shelf, SureShelf};
+use graph_rows::{Rows, load, read_rows};
 use key_lang::KeyFile;
 use proof_graph::Proof;
 use std::alloc::Global;
+use std::sync::Wait;
 use std::thread::Threads;
+use steal_pool::Gate;
+
+/// The name that a demo's graph goes by.
+const DEMO_GRAPH: &[u8] = b"graph";
+
+/// The name that a demo's keys go by.
+const DEMO_KEYS: &[u8] = b"keys";
 
 /// The keys of the key file, or the ending of a run that can't have them. It is loaded whole before it is judged.
 fn read_keys<S: Shelf>(
@@ -67,40 +79,100 @@ fn read_proof<S: Shelf>(
     Ok(proof_graph::read_proof(alloc, &bytes, limits.bytes)?)
 }
 
-/// The report of `match`, or the ending of a run that has none: the graph comes first, then the key file, then the chase.
-pub(crate) fn matched<Rt: Threads + Sync, S: Shelf>(
-    rt: &Rt,
+/// The rows of the graph and the keys, or the ending of a run that can't have them: the graph comes first, then the key
+/// file.
+fn read_graph_and_keys<S: Shelf>(
     alloc: Global,
     shelf: &mut S,
     graph: &Text,
     keys: &Text,
     limits: &Limits,
-) -> Result<Vec<u8>, Ending>
+) -> Result<(Rows, KeyFile), Ending>
     requires { AreAtMostStandard limits.now }
-    ensures { let Stops = Stopped S.Shelf shelf.old shelf.new (Matching graph.now keys.now) limits.now in
-        MatchResult result (λ text. Stops (Ending.Done Answer.Given text)) Stops }
+    ensures read { IfOk result (λ r. ReadBoth S.Shelf shelf.old shelf.new limits.now graph.now keys.now r.0 r.1) }
+    ensures few { IfOk result (λ r. AreFew r.0) }
+    ensures ends { IfErr result (Stopped S.Shelf shelf.old shelf.new (Matching graph.now keys.now) limits.now) }
+    ensures no_answer { IfErr result HasNoAnswer }
 {
     let rows = read_rows(alloc, shelf, graph, limits)?;
     let read = read_keys(alloc, shelf, keys, limits)?;
-    match_files(rt, alloc, rows, &read, limits.pairs)
+    Ok((rows, read))
 }
 
-/// The proof of `prove`, or the ending of a run that has none: the files come as for `match`, then the chase.
-pub(crate) fn proved<Rt: Threads + Sync, S: Shelf>(
+/// The report of `match`, or the ending of a run that has none: the files are read, and then the chase runs, with so many
+/// workers that pass the gate before each search.
+pub(crate) fn matched<Rt: Threads + Wait + Sync, S: Shelf, G: Gate>(
     rt: &Rt,
     alloc: Global,
     shelf: &mut S,
     graph: &Text,
     keys: &Text,
     limits: &Limits,
+    workers: u32,
+    gate: &G,
 ) -> Result<Vec<u8>, Ending>
-    requires { AreAtMostStandard limits.now }
+    requires limits { AreAtMostStandard limits.now }
+    requires workers { (0 < workers) × (workers ≤ 64) }
+    ensures { let Stops = Stopped S.Shelf shelf.old shelf.new (Matching graph.now keys.now) limits.now in
+        MatchResult result (λ text. Stops (Ending.Done Answer.Given text)) Stops }
+{
+    let (rows, read) = read_graph_and_keys(alloc, shelf, graph, keys, limits)?;
+    match_files(rt, alloc, rows, &read, limits.pairs, workers, gate)
+}
+
+/// The proof of `prove`, or the ending of a run that has none: the files come as for `match`, then the chase.
+pub(crate) fn proved<Rt: Threads + Wait + Sync, S: Shelf, G: Gate>(
+    rt: &Rt,
+    alloc: Global,
+    shelf: &mut S,
+    graph: &Text,
+    keys: &Text,
+    limits: &Limits,
+    workers: u32,
+    gate: &G,
+) -> Result<Vec<u8>, Ending>
+    requires limits { AreAtMostStandard limits.now }
+    requires workers { (0 < workers) × (workers ≤ 64) }
     ensures { let Stops = Stopped S.Shelf shelf.old shelf.new (Proving graph.now keys.now) limits.now in
         MatchResult result (λ text. Stops (Ending.Done Answer.Given text)) Stops }
 {
-    let numbered = read_rows(alloc, shelf, graph, limits)?;
-    let known = read_keys(alloc, shelf, keys, limits)?;
-    prove_files(rt, alloc, numbered, &known, limits.pairs)
+    let (rows, read) = read_graph_and_keys(alloc, shelf, graph, keys, limits)?;
+    prove_files(rt, alloc, rows, &read, limits.pairs, workers, gate)
+}
+
+/// A demo's own two texts, as files.
+fn demo_shelf(alloc: Global, n: u32) -> Result<SureShelf, NoMemory>
+    requires { (0 < n) × (n ≤ 100000) }
+    ensures { IfOk result (λ shelf. shelf.files ≡ demo_files n) }
+{
+    let (graph, keys) = demo_texts(alloc, n)?;
+    let mut files = Vec::with_capacity(alloc, 2)?;
+    files.push((Text::from_bytes(alloc, DEMO_GRAPH)?, graph))?;
+    files.push((Text::from_bytes(alloc, DEMO_KEYS)?, keys))?;
+    Ok(SureShelf::new(files))
+}
+
+/// The line of `demo`, or the ending of a run that has none. Its own two texts are read as the files of `match` are, and then
+/// the chase runs as there.
+pub(crate) fn demonstrated<Rt: Threads + Wait + Sync, G: Gate>(
+    rt: &Rt,
+    alloc: Global,
+    n: u32,
+    limits: &Limits,
+    workers: u32,
+    gate: &G,
+) -> Result<Vec<u8>, Ending>
+    requires number { (0 < n) × (n ≤ 100000) }
+    requires limits { AreAtMostStandard limits.now }
+    requires workers { (0 < workers) × (workers ≤ 64) }
+    ensures { let Stops = DemoStops n limits.now in
+        MatchResult result (λ text. Stops (Ending.Done Answer.Given text)) Stops }
+{
+    let graph = Text::from_bytes(alloc, DEMO_GRAPH)?;
+    let keys = Text::from_bytes(alloc, DEMO_KEYS)?;
+    let mut shelf = demo_shelf(alloc, n)?;
+    let (rows, read) = read_graph_and_keys(alloc, &mut shelf, &graph, &keys, limits)?;
+    count_files(rt, alloc, rows, &read, limits.pairs, workers, gate)
 }
 
 /// The answer of `check` and its text, or the ending of a run that has none: the graph comes first, then the key file, then

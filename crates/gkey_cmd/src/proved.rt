@@ -1,8 +1,9 @@
 //! What `prove` prints: a proof of all that is the same, from the rows of the graph and the keys.
 
-ghost use Rattle.std.specs.Prelude.{◌≡◌, ◌<◌, ◌^◌, ◌-◌, List, map, length, IfOk, IfErr, OnOk};
+ghost use Rattle.std.specs.Prelude.{◌≡◌, ◌<◌, ◌≤◌, ◌^◌, ◌-◌, List, map, length, IfOk, IfErr, OnOk};
 ghost use Rattle.gk_base.specs.declared.term.Triple.{Triple as AnyTriple};
 ghost use Rattle.key_file.specs.KeyShape.{KeyShape};
+ghost use Rattle.match_run.specs.Classes.{IsFinishedJournal};
 ghost use Rattle.graph_rows.specs.Rows.{StandFor, AreFew};
 ghost use Rattle.gkey_cmd.specs.Matched.{HasTooManyPairs};
 ghost use Rattle.gkey_cmd.specs.Told.{TellsJournal};
@@ -10,18 +11,20 @@ ghost use Rattle.gkey_cmd.specs.ChaseEnds.{IsRightChaseStop, IsProofOfFiles, Pro
 
 use crate::ending::{Ending, Refusal};
 use chase_core::Setup;
-use chase_laws::all_valid;
 use chase_laws::laws::{law_chase, law_rows};
+use chase_laws::{Entry, all_valid};
 use gk_base::{NoMemory, Stop, Text};
 use graph_rows::{Rows, number};
 use key_file::KeyDef;
 use key_lang::KeyFile;
-use match_run::{journal_of, prepare};
+use match_run::{chase_setup, prepare};
 use pair_seed::SeedStop;
 use proof_check::law_proof;
 use proof_graph::{build_proof, law_proof_read_back, put_proof};
 use std::alloc::Global;
+use std::sync::Wait;
 use std::thread::Threads;
+use steal_pool::Gate;
 use term_table::Names;
 
 /// The names of keys, in their order.
@@ -35,14 +38,15 @@ fn key_names(alloc: Global, keys: &[KeyDef]) -> Result<Vec<Text>, NoMemory>
     Ok(names)
 }
 
-/// The text of the proof that a chase over this setup is made into: it runs to its end, its journal makes the proof, and that
-/// is written. Only want of memory stops it.
+/// The text of the proof that the journal of a finished chase over this setup is made into. Only want of memory stops it.
 fn journal_text(
     alloc: Global,
     setup: &Setup,
+    journal: &[Entry],
     names: &Names,
     keys: &[KeyDef],
 ) -> Result<Vec<u8>, NoMemory>
+    requires finished { IsFinishedJournal setup.now.task.graph setup.now.task.patterns journal.now }
     requires named { length setup.now.task.graph.literal ≡ length names.now }
     requires one_each { length keys.now ≡ length setup.now.task.patterns }
     ensures { IfOk result (λ text. TellsJournal setup.now.task.graph setup.now.task.patterns names.now (map (λ (k : KeyShape). k.name) keys.now) text.items) }
@@ -52,26 +56,28 @@ fn journal_text(
     all_valid(patterns);
     let _graph = setup.graph();
     let _distinct = names.len();
-    let journal = journal_of(alloc, setup)?;
     let key_names = key_names(alloc, keys)?;
-    let proof = build_proof(alloc, &journal, names, patterns, &key_names)?;
+    let proof = build_proof(alloc, journal, names, patterns, &key_names)?;
     let mut text = Vec::new(alloc);
     put_proof(&mut text, &proof)?;
     Ok(text)
 }
 
-/// The text of a proof of all that is the same.
+/// The text of a proof of all that is the same, by a chase with so many workers, which pass the gate before each search.
 ///
 /// `TooManyPairs` comes exactly where there are more candidate pairs than `limit`, and `NoMemory` where memory ran out.
-fn proof_of<Rt: Threads + Sync>(
+fn proof_of<Rt: Threads + Wait + Sync, G: Gate>(
     rt: &Rt,
     alloc: Global,
     rows: Rows,
     keys: &KeyFile,
     limit: u64,
+    workers: u32,
+    gate: &G,
 ) -> Result<Vec<u8>, SeedStop>
     requires few { AreFew rows }
     requires limit { limit < 2 ^ 32 }
+    requires workers { (0 < workers) × (workers ≤ 64) }
     ensures proof { IfOk result (λ text. (triples : List AnyTriple) → StandFor rows triples → IsProofOfFiles triples keys.now text.items) }
     ensures no_more { OnOk result ((triples : List AnyTriple) → StandFor rows triples → ¬ (HasTooManyPairs triples keys.now limit)) }
     ensures stop { IfErr result (λ stop. (triples : List AnyTriple) → StandFor rows triples → IsRightChaseStop triples keys.now limit stop) }
@@ -81,23 +87,28 @@ fn proof_of<Rt: Threads + Sync>(
     law_proof();
     let numbered = number(alloc, rows, keys)?;
     let prepared = prepare(rt, alloc, numbered.graph, numbered.patterns, limit)?;
-    let text = journal_text(alloc, &prepared.setup, &numbered.names, keys.keys())?;
+    let setup = &prepared.setup;
+    let matched = chase_setup(rt, alloc, setup, workers, gate)?;
+    let text = journal_text(alloc, setup, &matched.journal, &numbered.names, keys.keys())?;
     Ok(text)
 }
 
 /// The proof of a chase whose files are read, or the ending of a run that has none.
-pub fn prove_files<Rt: Threads + Sync>(
+pub fn prove_files<Rt: Threads + Wait + Sync, G: Gate>(
     rt: &Rt,
     alloc: Global,
     rows: Rows,
     keys: &KeyFile,
     limit: u64,
+    workers: u32,
+    gate: &G,
 ) -> Result<Vec<u8>, Ending>
     requires few { AreFew rows }
     requires limit { limit < 2 ^ 32 }
+    requires workers { (0 < workers) × (workers ≤ 64) }
     ensures { (triples : List AnyTriple) → StandFor rows triples → ProveEnds triples keys.now limit result }
 {
-    match proof_of(rt, alloc, rows, keys, limit) {
+    match proof_of(rt, alloc, rows, keys, limit, workers, gate) {
         Ok(text) => Ok(text),
         Err(Stop::NoMemory) => Err(Ending::NoMemory),
         Err(Stop::Fault(_)) => Err(Ending::Refused(Refusal::MorePairsThan(limit))),

@@ -42,7 +42,7 @@ pub(crate) const NO_COMMAND: u8 = 64;
 
 /// The text of `NO_COMMAND`.
 pub(crate) const USAGE: &[u8] =
-    b"usage:\n  gkey match GRAPH KEYS\n  gkey prove GRAPH KEYS\n  gkey check GRAPH KEYS PROOF\n  gkey convert PROOF\n";
+    b"usage:\n  gkey match [--workers N] GRAPH KEYS\n  gkey prove [--workers N] GRAPH KEYS\n  gkey check GRAPH KEYS PROOF\n  gkey convert PROOF\n  gkey demo N\n";
 
 /// What a text calls a file.
 fn file_text(file: File) -> &'static [u8]

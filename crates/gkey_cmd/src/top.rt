@@ -3,17 +3,18 @@
 ghost use Rattle.std.specs.Prelude.{◌≡◌, MatchResult};
 ghost use Rattle.gkey_cmd.specs.Commands.{wanted};
 ghost use Rattle.gkey_cmd.specs.Written.{AreAtMostStandard};
-ghost use Rattle.gkey_cmd.specs.Endings.{Caused};
+ghost use Rattle.gkey_cmd.specs.Endings.{Caused, LeavesShelf};
 ghost use Rattle.gkey_cmd.specs.Run.{IsRun};
 
 use crate::ending::{Answer, Ending, finish};
-use crate::order::{checked, converted, matched, proved};
-use crate::words::{Command, read_words};
+use crate::order::{checked, converted, demonstrated, matched, proved};
+use crate::words::{Command, WORKERS, read_words};
 use gk_base::{Limits, Text};
 use gk_io::{Shelf, Sink};
 use std::alloc::Global;
 use std::sync::Wait;
 use std::thread::Threads;
+use steal_pool::{Gate, OpenGate};
 
 /// The ending of a command that has one answer and its text, or has none.
 fn given(text: Result<Vec<u8>, Ending>) -> Ending
@@ -36,28 +37,39 @@ fn answered(answer: Result<(Answer, Vec<u8>), Ending>) -> Ending
 }
 
 /// How a run ends before anything is written.
-fn decide<Rt: Threads + Sync, S: Shelf>(
+fn decide<Rt: Threads + Wait + Sync, S: Shelf, G: Gate>(
     rt: &Rt,
     alloc: Global,
     words: &[Text],
     shelf: &mut S,
     limits: &Limits,
+    gate: &G,
 ) -> Ending
     requires { AreAtMostStandard limits.now }
-    ensures { Caused S.Shelf shelf.old shelf.new (wanted words.now) limits.now result }
+    ensures caused { Caused S.Shelf shelf.old shelf.new (wanted words.now) limits.now result }
+    ensures demo { LeavesShelf shelf.old shelf.new (wanted words.now) result }
 {
     match read_words(words) {
         None => Ending::NoCommand,
-        Some(Command::Match { graph, keys, .. }) => {
-            given(matched(rt, alloc, shelf, graph, keys, limits))
-        }
-        Some(Command::Prove { graph, keys, .. }) => {
-            given(proved(rt, alloc, shelf, graph, keys, limits))
-        }
+        Some(
+            Command::Match {
+                workers,
+                graph,
+                keys,
+            },
+        ) => given(matched(rt, alloc, shelf, graph, keys, limits, workers, gate)),
+        Some(
+            Command::Prove {
+                workers,
+                graph,
+                keys,
+            },
+        ) => given(proved(rt, alloc, shelf, graph, keys, limits, workers, gate)),
         Some(Command::Check { graph, keys, proof }) => {
             answered(checked(alloc, shelf, graph, keys, proof, limits))
         }
         Some(Command::Convert { proof }) => given(converted(alloc, shelf, proof, limits)),
+        Some(Command::Demo { n }) => given(demonstrated(rt, alloc, n, limits, WORKERS, gate)),
     }
 }
 
@@ -65,8 +77,9 @@ fn decide<Rt: Threads + Sync, S: Shelf>(
 /// in `specs/Run.antt`.
 ///
 /// The words are those after the program's name. The files are found and read in their order, up to the first that
-/// fails or is refused; then the chase runs and its text is made; then it is written.
-pub fn run_with<Rt: Threads + Wait + Sync, S: Shelf, O: Sink, E: Sink>(
+/// fails or is refused; then the chase runs and its text is made; then it is written. A demo reads its own texts, and no
+/// shelf. Each worker of the chase passes the gate before each search.
+pub fn run_gated<Rt: Threads + Wait + Sync, S: Shelf, O: Sink, E: Sink, G: Gate>(
     rt: &Rt,
     alloc: Global,
     words: &[Text],
@@ -74,11 +87,12 @@ pub fn run_with<Rt: Threads + Wait + Sync, S: Shelf, O: Sink, E: Sink>(
     out: &mut O,
     err: &mut E,
     limits: &Limits,
+    gate: &G,
 ) -> u8
     requires { AreAtMostStandard limits.now }
     ensures { IsRun S.Shelf O.Sink E.Sink (wanted words.now) limits.now shelf.old shelf.new out.old out.new err.old err.new result }
 {
-    let ending = decide(rt, alloc, words, shelf, limits);
+    let ending = decide(rt, alloc, words, shelf, limits, gate);
     finish(alloc, &ending, out, err)
 }
 
@@ -88,7 +102,8 @@ pub fn run_with<Rt: Threads + Wait + Sync, S: Shelf, O: Sink, E: Sink>(
 /// words ask for no command. What it leaves at each status, and why, is `IsRun` in `specs/Run.antt`.
 ///
 /// The words are those after the program's name. The files are found and read in their order, up to the first that
-/// fails or is refused; then the chase runs and its text is made; then it is written.
+/// fails or is refused; then the chase runs and its text is made; then it is written. A demo reads its own texts, and no
+/// shelf.
 pub fn run<Rt: Threads + Wait + Sync, S: Shelf, O: Sink, E: Sink>(
     rt: &Rt,
     alloc: Global,
@@ -99,5 +114,14 @@ pub fn run<Rt: Threads + Wait + Sync, S: Shelf, O: Sink, E: Sink>(
 ) -> u8
     ensures { IsRun S.Shelf O.Sink E.Sink (wanted words.now) Limits.STANDARD shelf.old shelf.new out.old out.new err.old err.new result }
 {
-    run_with(rt, alloc, words, shelf, out, err, &Limits::STANDARD)
+    run_gated(
+        rt,
+        alloc,
+        words,
+        shelf,
+        out,
+        err,
+        &Limits::STANDARD,
+        &OpenGate,
+    )
 }

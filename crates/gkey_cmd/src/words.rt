@@ -1,12 +1,19 @@
 //! The commands of the program, and the words that ask for them.
 
-ghost use Rattle.std.specs.Prelude.{◌≡◌, None, MatchOption};
-ghost use Rattle.gkey_cmd.specs.Commands.{wanted, IsCommand};
+ghost use Rattle.std.specs.Prelude.{◌≡◌, ◌≤◌, ◌<◌, None, IfSome, MatchOption};
+ghost use Rattle.gkey_cmd.specs.Commands.{wanted, chase_of, number_to, IsCommand, IsChaseOf};
 
+use demo_graph::number_of;
 use gk_base::Text;
 
 /// How many workers a chase has where the words name none.
-const WORKERS: u32 = 4;
+pub(crate) const WORKERS: u32 = 4;
+
+/// How many workers a chase has at most.
+const MOST_WORKERS: u32 = 64;
+
+/// The largest number that a demo has.
+const MOST_PAIRS: u32 = 100_000;
 
 /// What a run is to do, with the names of its files.
 #[derive(Clone, Copy)]
@@ -35,6 +42,47 @@ pub enum Command<'w> {
     Convert {
         proof: &'w Text,
     },
+    /// Match a graph that is made for it, and print how many classes there are.
+    Demo {
+        /// How many pairs of entities the graph has: 1 to 100,000.
+        n: u32,
+    },
+}
+
+/// The number from 1 to `most`, if the word is one in decimal, without sign and without leading zero.
+fn number_to(word: &Text, most: u32) -> Option<u32>
+    requires { (1 ≤ most) × (most ≤ 100000) }
+    ensures number { result ≡ number_to most word.now }
+    ensures within { IfSome result (λ n. (0 < n) × (n ≤ most)) }
+{
+    number_of(word.bytes(), most)
+}
+
+/// The command with a chase that has this name, if there is one.
+fn chase_command<'w>(
+    name: &Text,
+    workers: u32,
+    graph: &'w Text,
+    keys: &'w Text,
+) -> Option<Command<'w>>
+    ensures { let asked = chase_of name.now graph.now keys.now in
+        MatchOption result (asked ≡ None) (IsChaseOf asked workers) }
+{
+    if name.bytes() == b"match".as_slice() {
+        Some(Command::Match {
+            workers,
+            graph,
+            keys,
+        })
+    } else if name.bytes() == b"prove".as_slice() {
+        Some(Command::Prove {
+            workers,
+            graph,
+            keys,
+        })
+    } else {
+        None
+    }
 }
 
 /// The command that the words after the program's name ask for. None comes exactly where they ask for none. It takes
@@ -43,22 +91,20 @@ pub fn read_words<'w>(words: &'w [Text]) -> Option<Command<'w>>
     ensures { MatchOption result (wanted words.now ≡ None) (IsCommand words.now) }
 {
     match words {
-        [command, graph, keys] if command.bytes() == b"match".as_slice() => Some(Command::Match {
-            workers: WORKERS,
-            graph,
-            keys,
-        }),
-        [command, graph, keys] if command.bytes() == b"prove".as_slice() => Some(Command::Prove {
-            workers: WORKERS,
-            graph,
-            keys,
-        }),
+        [command, graph, keys] => chase_command(command, WORKERS, graph, keys),
+        [command, option, workers, graph, keys] if option.bytes() == b"--workers".as_slice() => {
+            let workers = number_to(workers, MOST_WORKERS)?;
+            chase_command(command, workers, graph, keys)
+        }
         [command, graph, keys, proof] if command.bytes() == b"check".as_slice() => {
             Some(Command::Check { graph, keys, proof })
         }
         [command, proof] if command.bytes() == b"convert".as_slice() => {
             Some(Command::Convert { proof })
         }
+        [command, n] if command.bytes() == b"demo".as_slice() => Some(Command::Demo {
+            n: number_to(n, MOST_PAIRS)?,
+        }),
         _ => None,
     }
 }

@@ -1,55 +1,11 @@
--- A file is not to be had, or both are and the chase runs.
-use Rattle.std.proofs.Common.{[], ◌∷◌, Ok, IfSome, refl, subst, ◌∙◌, arith}
-use Rattle.std.proofs.lemmas.Result.{err_from_is_err_and}
-use Rattle.gk_io.specs.Files.{bytes_of}
-use Rattle.graph_rows.proofs.CallerLemmas.{told_more}
-use Rattle.gkey_cmd.specs.Commands.{Matching}
-use Rattle.gkey_cmd.specs.Reading.{GraphSays, KeyFileSays, IsAccepted}
-use Rattle.gkey_cmd.specs.declared.file.File.TheVariants.{Graph, Keys}
-use Rattle.gkey_cmd.proofs.Deciding.{read_none, read_next, file_left_first, stopped, graph_ends, stops_at_graph, stops_at_keys, match_ended}
+-- Both files are read, and the chase runs.
+use Rattle.gkey_cmd.proofs.Deciding.{match_ended}
 use Rattle.gkey_cmd.proofs.order.matched.Goals as goal
-
-pub returns-in_err-rows : goal.returns-in_err-rows
-returns-in_err-rows g c =
-    let a = c.args in
-    let k = c.from_residual in
-    let p = err_from_is_err_and k.result k.ensures.1 in
-    let none = read_none g.S.Shelf a.shelf.now a.limits.now in
-    rw (p.1, p.2) (stopped g.S.Shelf a.shelf.now a.shelf.now c.read_rows.new.shelf a.limits.now [] Graph a.graph.now none
-    (Matching a.graph.now a.keys.now) ((Keys, a.keys.now) ∷ []) refl
-    (stops_at_graph g.S.Shelf a.shelf.now c.read_rows.new.shelf a.limits.now a.graph.now a.keys.now []) _
-    (graph_ends g.S.Shelf a.shelf.now c.read_rows.new.shelf a.limits.now a.graph.now c.in_err-rows.field-0.0 c.in_err-rows.ensures.gives))
-
-pub returns-in_err-read : goal.returns-in_err-read
-returns-in_err-read g c =
-    let a = c.args in
-    let k = c.from_residual-in_err-read in
-    let p = err_from_is_err_and k.result k.ensures.1 in
-    let none = read_none g.S.Shelf a.shelf.now a.limits.now in
-    let r = c.in_ok-rows.ensures in
-    let t = r.gives.1 in
-    let accepted = told_more (g.S.Shelf.held a.shelf.now) (λ files. GraphSays a.limits.now (bytes_of files a.graph.now) (Ok t.0)) (λ files. IsAccepted a.limits.now files Graph a.graph.now)
-    (λ files says. (t.0, says)) t.1.says in
-    let one = read_next g.S.Shelf a.shelf.now a.shelf.now c.read_rows.new.shelf a.limits.now [] Graph a.graph.now none accepted r.gives.0 r.held in
-    rw (p.1, p.2) (stopped g.S.Shelf a.shelf.now c.read_rows.new.shelf c.read_keys.new.shelf a.limits.now ((Graph, a.graph.now) ∷ []) Keys a.keys.now one
-    (Matching a.graph.now a.keys.now) [] refl
-    (stops_at_keys g.S.Shelf a.shelf.now c.read_keys.new.shelf a.limits.now a.graph.now a.keys.now []) c.in_err-read.field-0.0 c.in_err-read.ensures.ends)
-
-pub match_files-requires-clause-few : goal.match_files-requires-clause-few
-match_files-requires-clause-few g c = λ lives outlives.
-    let t = c.in_ok-rows.ensures.gives.1 in (t.0, t.1.stand, omega (arith, t.1.few, c.requires.triples))
 
 pub returns : goal.returns
 returns g c =
     let a = c.args in
-    let r = c.in_ok-rows.ensures in
-    let t = r.gives.1 in
-    let k = c.in_ok-read in
-    let in_keys = subst (λ o. IfSome o (λ files. KeyFileSays a.limits.now (bytes_of files a.keys.now) (Ok k.read))) r.held k.ensures.says in
-    let none = read_none g.S.Shelf a.shelf.now a.limits.now in
-    let accepted = told_more (g.S.Shelf.held a.shelf.now) (λ files. GraphSays a.limits.now (bytes_of files a.graph.now) (Ok t.0)) (λ files. IsAccepted a.limits.now files Graph a.graph.now)
-    (λ files says. (t.0, says)) t.1.says in
-    let one = read_next g.S.Shelf a.shelf.now a.shelf.now c.read_rows.new.shelf a.limits.now [] Graph a.graph.now none accepted r.gives.0 r.held in
-    let left = file_left_first g.S.Shelf a.shelf.now c.read_rows.new.shelf c.read_keys.new.shelf a.limits.now ((Graph, a.graph.now) ∷ []) Keys a.keys.now one a.limits.now.key_bytes k.ensures.left in
-    match_ended g.S.Shelf a.shelf.now c.read_keys.new.shelf a.limits.now a.graph.now a.keys.now t.0 k.read (k.ensures.count ∙ r.gives.0)
-    t.1.says in_keys left c.match_files.result (c.match_files.ensures t.0 t.1.stand)
+    let r = c.in_ok-rows.ensures.read in
+    let t = r.1 in
+    match_ended g.S.Shelf a.shelf.now c.read_graph_and_keys.new.shelf a.limits.now a.graph.now a.keys.now r.0 c.in_ok-rows.read t.count
+    t.in_graph t.in_keys t.left c.match_files.result (c.match_files.ensures r.0 t.stand)

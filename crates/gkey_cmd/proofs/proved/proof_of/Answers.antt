@@ -3,6 +3,7 @@ use Rattle.std.proofs.Common.{map, length, ◌∙◌, sym, ap, subst}
 use Rattle.std.proofs.lemmas.Result.{err_from_is_err_and}
 use Rattle.std.proofs.lemmas.List.{length-map}
 use Rattle.chase_laws.specs.Graph.{NumberedGraph}
+use Rattle.match_run.specs.Classes.{IsFinishedJournal}
 use Rattle.key_file.specs.KeyShape.{KeyShape}
 use Rattle.key_file.specs.Compile.{shape_of}
 use Rattle.gkey_cmd.specs.Told.{TellsJournal}
@@ -18,6 +19,17 @@ returns-in_err-prepared-clause-stop g c =
     rw (p.1, p.2) (λ triples s.
     let is = c.in_ok-numbered.ensures.numbered triples s in
     right_stop triples c.args.keys.now n.graph n.names n.patterns.items is.names is.graph is.patterns c.law_rows.ensures.candidate c.args.limit c.in_err-prepared.field-0.0 c.in_err-prepared.ensures.stop)
+
+pub returns-in_err-matched-clause-stop : goal.returns-in_err-matched-clause-stop
+returns-in_err-matched-clause-stop g c =
+    let k = c.from_residual-in_err-matched in
+    let p = err_from_is_err_and k.result k.ensures.1 in
+    rw (p.1, p.2) (λ triples s. tt)
+
+pub journal_text-requires-clause-finished : goal.journal_text-requires-clause-finished
+journal_text-requires-clause-finished g c =
+    let setup = c.in_ok-prepared.prepared.setup in
+    subst (IsFinishedJournal setup.task.graph setup.task.patterns) (sym c.deref.ensures.value) c.in_ok-matched.ensures.journal
 
 pub journal_text-requires-clause-named : goal.journal_text-requires-clause-named
 journal_text-requires-clause-named g c =

@@ -1,9 +1,9 @@
 -- What the run leaves follows from its ending.
 use Rattle.gkey_cmd.specs.Commands.{wanted}
 use Rattle.gkey_cmd.proofs.Running.{run_told}
-use Rattle.gkey_cmd.proofs.top.run_with.Goals as goal
+use Rattle.gkey_cmd.proofs.top.run_gated.Goals as goal
 
 pub returns : goal.returns
 returns g c =
     run_told g.S.Shelf g.O.Sink g.E.Sink c.args.shelf.now c.decide-ending.new.shelf c.args.out.now c.finish.new.out c.args.err.now c.finish.new.err
-    (wanted c.args.words.now) c.args.limits.now c.finish.result c.decide-ending.result c.decide-ending.ensures c.finish.ensures
+    (wanted c.args.words.now) c.args.limits.now c.finish.result c.decide-ending.result c.decide-ending.ensures.caused c.decide-ending.ensures.demo c.finish.ensures
