@@ -1,0 +1,4 @@
+mod FaceLemmas
+mod ListedLemmas
+mod LineLemmas
+mod ReadLemmas

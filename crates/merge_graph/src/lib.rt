@@ -1,0 +1,20 @@
+//! The merged graph: each entity stands as the first member of its class, so that a graph with what a match found is a
+//! graph again. The subject and the object of each row are replaced by the member of their class whose canonical text is
+//! least by bytes, their face, and the predicate stays. The triples are printed by their canonical texts, each once,
+//! ascending by bytes; `nt_reader` reads them back as they are. No command calls this crate yet.
+//!
+//! - `merging`: the merged graph's text, from rows and labels
+//! - `faces`: for each name its face
+//! - `face_table`: from a label to the face of the names that have it
+//! - `lines`: the lines of the triples, sorted and joined
+//! - `merged_text`: the text
+#![tactic(auto)]
+
+mod face_table;
+mod faces;
+mod lines;
+mod merged_text;
+mod merging;
+
+pub use merged_text::MergedText;
+pub use merging::merge;

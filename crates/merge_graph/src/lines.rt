@@ -1,0 +1,82 @@
+//! The lines of the triples that the rows become, sorted and joined.
+
+ghost use Rattle.std.specs.Prelude.{◌≡◌, ◌<◌, ◌↔◌, ℕ, List, IfOk, All, Contains, length, map};
+ghost use Rattle.std.specs.List.{flat_map};
+ghost use Rattle.std.specs.List.Sorted.{IsStrictlySortedBy};
+ghost use Rattle.std.specs.Ordering.{nat_cmp};
+ghost use Rattle.std.specs.Cmp.Lexicographic.{slice_cmp};
+ghost use Rattle.term_text.specs.CanonicalText.{triple_text};
+ghost use Rattle.merge_graph.specs.MergedGraph.{IsWithin, image};
+
+use crate::faces::term_of;
+use gk_base::{NoMemory, Text, Triple};
+use std::alloc::Global;
+use term_table::Names;
+use term_text::put_triple;
+
+/// The line of each row's image, in the order of the rows.
+pub fn image_lines(
+    alloc: Global,
+    names: &Names,
+    faces: &[u32],
+    rows: &[[u32; 3]],
+) -> Result<Vec<Text>, NoMemory>
+    requires one_each { length faces.now ≡ length names.now }
+    requires faces { All (λ face. face < length names.now) faces.now }
+    requires rows { All (IsWithin (length names.now)) rows.now }
+    ensures { IfOk result (λ v. v.items ≡ map (λ row. triple_text (image names.now faces.now row)) rows.now) }
+{
+    let mut lines = Vec::with_capacity(alloc, rows.len())?;
+    for row in rows {
+        lines.push(image_line(alloc, names, faces, row)?)?;
+    }
+    Ok(lines)
+}
+
+/// The line of a row's image.
+fn image_line(alloc: Global, names: &Names, faces: &[u32], row: &[u32; 3]) -> Result<Text, NoMemory>
+    requires one_each { length faces.now ≡ length names.now }
+    requires faces { All (λ face. face < length names.now) faces.now }
+    requires row { IsWithin (length names.now) row.now }
+    ensures { IfOk result (λ t. t ≡ triple_text (image names.now faces.now row.now)) }
+{
+    let triple = Triple {
+        subject: term_of(alloc, names, faces[row[0] as usize])?,
+        predicate: term_of(alloc, names, row[1])?,
+        object: term_of(alloc, names, faces[row[2] as usize])?,
+    };
+    let mut line = Vec::new(alloc);
+    put_triple(&mut line, &triple)?;
+    Ok(Text::from_vec(line))
+}
+
+/// The lines ascending by bytes, each once.
+pub fn sorted_once(lines: Vec<Text>) -> Vec<Text>
+    ensures ascends { IsStrictlySortedBy (slice_cmp nat_cmp) result.items }
+    ensures same { (line : List ℕ) → Contains result.items line ↔ Contains lines.items line }
+{
+    let mut lines = lines;
+    lines.sort_unstable();
+    lines.dedup();
+    lines
+}
+
+/// The lines one after another.
+pub fn joined(alloc: Global, lines: &[Text]) -> Result<Vec<u8>, NoMemory>
+    ensures { IfOk result (λ v. v.items ≡ flat_map (λ line. line) lines.now) }
+{
+    let mut text = Vec::with_capacity(alloc, total_length(lines))?;
+    for line in lines {
+        text.extend_from_slice(line.bytes())?;
+    }
+    Ok(text)
+}
+
+/// How long the lines are together, where memory could hold them.
+fn total_length(lines: &[Text]) -> usize {
+    let mut total: usize = 0;
+    for line in lines {
+        total = total.saturating_add(line.bytes().len());
+    }
+    total
+}
