@@ -1,0 +1,177 @@
+ghost use Rattle.std.specs.Prelude.{All, IsTrue};
+ghost use Rattle.merge_graph.specs.MergedGraph.{IsWithin};
+
+use gk_base::{Limits, NoMemory, ReadStop};
+use merge_graph::merge;
+use nt_reader::Reader;
+use std::alloc::Global;
+use std::test::Fail;
+use term_list::Triples;
+use term_table::Names;
+
+/// A graph, the labels of its names in the order in which they first come, and the merged graph.
+struct Merging {
+    graph: &'static str,
+    labels: &'static [u32],
+    merged: &'static str,
+}
+
+static MERGED: [Merging; 6] = [
+    // The first two albums are one.
+    Merging {
+        graph: "\
+<urn:al1> <http://www.w3.org/1999/02/22-rdf-syntax-ns#type> <urn:Album> .
+<urn:al2> <http://www.w3.org/1999/02/22-rdf-syntax-ns#type> <urn:Album> .
+<urn:al1> <urn:name> \"Anthology 2\" .
+<urn:al2> <urn:name> \"Anthology 2\" .
+<urn:al1> <urn:year> \"1996\" .
+<urn:al2> <urn:year> \"1996\" .
+",
+        labels: &[0, 1, 2, 0, 4, 5, 6, 7],
+        merged: "\
+<urn:al1> <http://www.w3.org/1999/02/22-rdf-syntax-ns#type> <urn:Album> .
+<urn:al1> <urn:name> \"Anthology 2\" .
+<urn:al1> <urn:year> \"1996\" .
+",
+    },
+    // Two albums each, and the artists, are one.
+    Merging {
+        graph: "\
+<urn:al1> <http://www.w3.org/1999/02/22-rdf-syntax-ns#type> <urn:Album> .
+<urn:al2> <http://www.w3.org/1999/02/22-rdf-syntax-ns#type> <urn:Album> .
+<urn:al1> <urn:name> \"Anthology 2\" .
+<urn:al2> <urn:name> \"Anthology 2\" .
+<urn:al1> <urn:year> \"1996\" .
+<urn:al2> <urn:year> \"1996\" .
+<urn:al3> <http://www.w3.org/1999/02/22-rdf-syntax-ns#type> <urn:Album> .
+<urn:al4> <http://www.w3.org/1999/02/22-rdf-syntax-ns#type> <urn:Album> .
+<urn:al3> <urn:name> \"Help!\" .
+<urn:al4> <urn:name> \"Help!\" .
+<urn:ar1> <http://www.w3.org/1999/02/22-rdf-syntax-ns#type> <urn:Artist> .
+<urn:ar2> <http://www.w3.org/1999/02/22-rdf-syntax-ns#type> <urn:Artist> .
+<urn:ar1> <urn:name> \"The Beatles\" .
+<urn:ar2> <urn:name> \"The Beatles\" .
+<urn:al1> <urn:by> <urn:ar1> .
+<urn:al2> <urn:by> <urn:ar2> .
+<urn:al3> <urn:by> <urn:ar1> .
+<urn:al4> <urn:by> <urn:ar2> .
+",
+        labels: &[0, 1, 2, 0, 4, 5, 6, 7, 9, 9, 10, 13, 12, 13, 14, 15],
+        merged: "\
+<urn:al1> <http://www.w3.org/1999/02/22-rdf-syntax-ns#type> <urn:Album> .
+<urn:al1> <urn:by> <urn:ar1> .
+<urn:al1> <urn:name> \"Anthology 2\" .
+<urn:al1> <urn:year> \"1996\" .
+<urn:al3> <http://www.w3.org/1999/02/22-rdf-syntax-ns#type> <urn:Album> .
+<urn:al3> <urn:by> <urn:ar1> .
+<urn:al3> <urn:name> \"Help!\" .
+<urn:ar1> <http://www.w3.org/1999/02/22-rdf-syntax-ns#type> <urn:Artist> .
+<urn:ar1> <urn:name> \"The Beatles\" .
+",
+    },
+    Merging {
+        graph: "",
+        labels: &[],
+        merged: "",
+    },
+    // Blank nodes and an IRI are one. The IRI comes last, and has the first text.
+    Merging {
+        graph: "\
+_:b.1 <urn:p> \"1\" .
+_::x <urn:p> \"1\" .
+<urn:z> <urn:p> \"1\" .
+<urn:a> <urn:q> _::x .
+",
+        labels: &[4_000_000_000, 1, 2, 4_000_000_000, 4_000_000_000, 5, 6],
+        merged: "\
+<urn:a> <urn:q> <urn:z> .
+<urn:z> <urn:p> \"1\" .
+",
+    },
+    // A predicate stays, though it is one with the subject. Nothing else is one, and a triple comes twice.
+    Merging {
+        graph: "\
+<urn:b> <urn:p> <urn:p> .
+<urn:a> <urn:q> \"1\"@en .
+<urn:b> <urn:p> <urn:p> .
+<urn:a> <urn:q> \"1\" .
+",
+        labels: &[0, 0, 2, 3, 4, 5],
+        merged: "\
+<urn:a> <urn:q> \"1\" .
+<urn:a> <urn:q> \"1\"@en .
+<urn:b> <urn:p> <urn:b> .
+",
+    },
+    // Some texts begin with the whole of another.
+    Merging {
+        graph: "\
+_:b0 <urn:p> \"1\" .
+_:b <urn:p> \"1\" .
+<urn:a> <urn:q> \"1\"^^<urn:t> .
+<urn:a> <urn:q> \"1\" .
+",
+        labels: &[0, 1, 2, 3, 4, 5, 6],
+        merged: "\
+<urn:a> <urn:q> \"1\" .
+<urn:a> <urn:q> \"1\"^^<urn:t> .
+_:b <urn:p> \"1\" .
+_:b0 <urn:p> \"1\" .
+",
+    },
+];
+
+/// The triples of a graph.
+fn read(alloc: Global, graph: &str) -> Result<Triples, ReadStop> {
+    let mut reader = Reader::new(alloc, &Limits::STANDARD);
+    reader.feed(graph.as_bytes())?;
+    reader.finish()
+}
+
+/// The numbers in threes.
+fn in_rows(alloc: Global, numbers: &[u32]) -> Result<Vec<[u32; 3]>, NoMemory> {
+    let mut rows = Vec::new(alloc);
+    for three in numbers.chunks_exact(3) {
+        if let [subject, predicate, object] = three {
+            rows.push([*subject, *predicate, *object])?;
+        }
+    }
+    Ok(rows)
+}
+
+/// Whether each number of the row is below the count.
+fn is_within(row: &[u32; 3], count: u32) -> bool
+    ensures { IsTrue result → IsWithin count row.now }
+{
+    row[0] < count && row[1] < count && row[2] < count
+}
+
+/// Whether each number of the rows is below the count.
+fn are_within(rows: &[[u32; 3]], count: u32) -> bool
+    ensures { IsTrue result → All (IsWithin count) rows.now }
+{
+    for row in rows {
+        if !is_within(row, count) {
+            return false;
+        }
+    }
+    true
+}
+
+#[test]
+fn each_name_stands_as_the_first_of_its_class(rt: HostRuntime) -> Result<(), Fail> {
+    let alloc = rt.alloc();
+    'cases: for case in &MERGED {
+        let triples = read(alloc, case.graph).expect(&rt, "the graph is good");
+        assert!(rt; triples.terms().len() < 1000);
+        let mut names = Names::new(alloc);
+        let numbers = names.intern_all(triples.terms())?;
+        let rows = in_rows(alloc, &numbers)?;
+        assert_eq!(rt; names.len() as usize, case.labels.len());
+        assert!(rt; are_within(&rows, names.len()));
+        let merged = merge(alloc, &names, &rows, case.labels)?;
+        assert_eq!(rt; merged.bytes(), case.merged.as_bytes());
+        assert_eq!(rt; merged.into_vec().as_slice(), case.merged.as_bytes());
+    }
+    Ok(())
+}
