@@ -27,14 +27,21 @@ pub fn image_lines(
     ensures { IfOk result (λ v. v.items ≡ map (λ row. triple_text (image names.now faces.now row)) rows.now) }
 {
     let mut lines = Vec::with_capacity(alloc, rows.len())?;
+    let mut buffer = Vec::new(alloc);
     for row in rows {
-        lines.push(image_line(alloc, names, faces, row)?)?;
+        lines.push(image_line(alloc, names, faces, row, &mut buffer)?)?;
     }
     Ok(lines)
 }
 
-/// The line of a row's image.
-fn image_line(alloc: Global, names: &Names, faces: &[u32], row: &[u32; 3]) -> Result<Text, NoMemory>
+/// The line of a row's image, in just as much memory as it needs: it is put together in the buffer, whose bytes are lost.
+fn image_line(
+    alloc: Global,
+    names: &Names,
+    faces: &[u32],
+    row: &[u32; 3],
+    buffer: &mut Vec<u8>,
+) -> Result<Text, NoMemory>
     requires one_each { length faces.now ≡ length names.now }
     requires faces { All (λ face. face < length names.now) faces.now }
     requires row { IsWithin (length names.now) row.now }
@@ -45,9 +52,9 @@ fn image_line(alloc: Global, names: &Names, faces: &[u32], row: &[u32; 3]) -> Re
         predicate: term_of(alloc, names, row[1])?,
         object: term_of(alloc, names, faces[row[2] as usize])?,
     };
-    let mut line = Vec::new(alloc);
-    put_triple(&mut line, &triple)?;
-    Ok(Text::from_vec(line))
+    buffer.clear();
+    put_triple(buffer, &triple)?;
+    Text::from_bytes(alloc, buffer)
 }
 
 /// The lines ascending by bytes, each once.
