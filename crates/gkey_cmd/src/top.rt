@@ -96,10 +96,10 @@ pub fn run_gated<Rt: Threads + Wait + Sync, S: Shelf, O: Sink, E: Sink, G: Gate>
     finish(alloc, &ending, out, err)
 }
 
-/// Does all that the program does, with its own limits, and gives the status: 0 where it is done, 1 where a proof is
-/// not accepted, 2 where an input is
-/// refused, 3 where a file could not be read, 4 where the output could not be written, 5 for want of memory, 64 where the
-/// words ask for no command. What it leaves at each status, and why, is `IsRun` in `specs/Run.antt`.
+/// Does all that the program does, with its own limits, and gives the status: 0 where it is done, 1 where a proof is not
+/// accepted, 2 where an input is refused, 3 where a file could not be read, 4 where the output could not be written, 5 for
+/// want of memory, 64 where the words ask for no command. What it leaves at each status, and why, is `IsRun` in
+/// `specs/Run.antt`.
 ///
 /// The words are those after the program's name. The files are found and read in their order, up to the first that
 /// fails or is refused; then the chase runs and its text is made; then it is written. A demo reads its own texts, and no
