@@ -30,7 +30,8 @@ pub const ALBUMS_AND_ARTISTS: &str = "\
 <urn:al1> <urn:by> <urn:ar1> .\n<urn:al2> <urn:by> <urn:ar2> .\n<urn:al3> <urn:by> <urn:ar1> .\n<urn:al4> <urn:by> <urn:ar2> .
 ";
 
-const THREE_CLASSES: &str = "<urn:al1> <urn:al2>\n<urn:al3> <urn:al4>\n<urn:ar1> <urn:ar2>\n";
+/// Their classes.
+pub const THREE_CLASSES: &str = "<urn:al1> <urn:al2>\n<urn:al3> <urn:al4>\n<urn:ar1> <urn:ar2>\n";
 
 static ROWS: [Row; 31] = [
     Row {
@@ -358,7 +359,7 @@ fn part(text: &[u8], from: usize, to: usize) -> &[u8] {
 }
 
 /// The lines of a text, the last one first.
-fn reversed(alloc: Global, text: &[u8]) -> Result<Vec<u8>, NoMemory> {
+pub fn reversed(alloc: Global, text: &[u8]) -> Result<Vec<u8>, NoMemory> {
     let mut lines = Vec::new(alloc);
     let mut end = text.len();
     for place in 1..text.len() {

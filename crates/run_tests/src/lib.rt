@@ -6,8 +6,12 @@
 //! - `keys`: small graphs with keys, and the classes that follow by hand
 //! - `proofs`: proofs that are made, checked and converted
 //! - `proof_files`: proof files that are refused or can't be read
+//! - `workers`: chases with one worker and with many, and what passes their gates
+//! - `gates`: gates that count, and gates at which workers meet
 #![tactic(auto)]
 
+#[cfg(test)]
+mod gates;
 #[cfg(test)]
 mod graphs;
 #[cfg(test)]
@@ -18,3 +22,5 @@ mod proof_files;
 mod proofs;
 #[cfg(test)]
 mod runs;
+#[cfg(test)]
+mod workers;

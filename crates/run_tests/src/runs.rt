@@ -3,10 +3,11 @@
 use fixtures::texts::{ALBUM_KEY, ALBUMS};
 use gk_base::{Limits, Text};
 use gk_io::{MemShelf, MemSink, SureShelf, SureSink};
-use gkey_cmd::{run, run_with};
+use gkey_cmd::{run, run_gated};
 use std::sync::Wait;
 use std::test::Fail;
 use std::thread::Threads;
+use steal_pool::OpenGate;
 
 const TWO_TYPES: &[u8] = b"\
 <urn:f> <http://www.w3.org/1999/02/22-rdf-syntax-ns#type> <urn:D> .
@@ -87,7 +88,8 @@ pub const GOOD: Case<'static> = Case {
     err: "",
 };
 
-fn text<R: AllocGlobal>(rt: &R, text: &str) -> Result<Text, Fail> {
+/// The text of these bytes.
+pub fn text<R: AllocGlobal>(rt: &R, text: &str) -> Result<Text, Fail> {
     Ok(Text::from_bytes(rt.alloc(), text.as_bytes())?)
 }
 
@@ -116,7 +118,7 @@ pub fn holds<R: AllocGlobal + Threads + Wait + Sync>(
     let mut shelf = MemShelf::new(files, case.most, case.reads.to_vec(rt.alloc())?);
     let mut out = MemSink::new(rt.alloc(), case.most, 1000, case.writes.to_vec(rt.alloc())?)?;
     let mut err = MemSink::new(rt.alloc(), 1000, 1000, Vec::new(rt.alloc()))?;
-    let status = run_with(
+    let status = run_gated(
         rt,
         rt.alloc(),
         &words,
@@ -124,6 +126,7 @@ pub fn holds<R: AllocGlobal + Threads + Wait + Sync>(
         &mut out,
         &mut err,
         &limits,
+        &OpenGate,
     );
     Ok(status == case.status && out.bytes() == case.out && err.bytes() == case.err.as_bytes())
 }
@@ -283,7 +286,7 @@ fn failed_writes_leave_a_front(rt: HostRuntime) -> Result<(), Fail> {
 }
 
 /// Words that ask for no command.
-static NO_COMMAND: [&'static [&'static str]; 11] = [
+static NO_COMMAND: [&'static [&'static str]; 15] = [
     &[],
     &["match", "g"],
     &["match", "g", "k", "k"],
@@ -292,7 +295,11 @@ static NO_COMMAND: [&'static [&'static str]; 11] = [
     &["check", "g", "k"],
     &["convert"],
     &["convert", "p", "p"],
+    &["demo"],
     &["demo", "0"],
+    &["demo", "100001"],
+    &["prove", "--workers", "0", "g", "k"],
+    &["match", "--worker", "4", "g", "k"],
     &["match", "--workers", "65", "g", "k"],
     &["match", "--workers", "04", "g", "k"],
 ];
@@ -304,7 +311,7 @@ fn other_words_ask_for_no_command(rt: HostRuntime) -> Result<(), Fail> {
             words,
             status: 64,
             out: b"",
-            err: "usage:\n  gkey match GRAPH KEYS\n  gkey prove GRAPH KEYS\n  gkey check GRAPH KEYS PROOF\n  gkey convert PROOF\n",
+            err: "usage:\n  gkey match [--workers N] GRAPH KEYS\n  gkey prove [--workers N] GRAPH KEYS\n  gkey check GRAPH KEYS PROOF\n  gkey convert PROOF\n  gkey demo N\n",
             ..GOOD
         };
         assert!(rt; holds(&rt, &case)?, "row {row}");
@@ -318,6 +325,49 @@ fn other_words_ask_for_no_command(rt: HostRuntime) -> Result<(), Fail> {
         ..GOOD
     };
     assert!(rt; holds(&rt, &dashes)?);
+    Ok(())
+}
+
+/// A demo, over a shelf that fails at its first call.
+const DEMO: Case<'static> = Case {
+    words: &["demo", "1"],
+    reads: &[1],
+    out: b"triples 6 pairs 1 classes 1 members 2\n",
+    ..GOOD
+};
+
+#[test]
+fn demos_print_their_counts(rt: HostRuntime) -> Result<(), Fail> {
+    let thousand = Case {
+        words: &["demo", "1000"],
+        out: b"triples 6000 pairs 1000 classes 1000 members 2000\n",
+        ..DEMO
+    };
+    let few_triples = Case {
+        limits: Limits {
+            triples: 6,
+            ..Limits::STANDARD
+        },
+        words: &["demo", "2"],
+        status: 2,
+        out: b"",
+        err: "graph:7: too many triples\n",
+        ..DEMO
+    };
+    let few_pairs = Case {
+        limits: Limits {
+            pairs: 1,
+            ..Limits::STANDARD
+        },
+        err: "pairs: more than 1\n",
+        ..few_triples
+    };
+    for (row, case) in [DEMO, thousand, few_triples, few_pairs]
+        .into_iter()
+        .enumerate()
+    {
+        assert!(rt; holds(&rt, &case)?, "row {row}");
+    }
     Ok(())
 }
 
