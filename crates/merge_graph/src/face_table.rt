@@ -1,6 +1,6 @@
 //! From a label to the face of the names that have it.
 
-ghost use Rattle.std.specs.Prelude.{◌≡◌, ℕ, ◌<◌, IfOk, OnOk, IfSome, length, ◌==◌, None, Some, if◌then◌else◌};
+ghost use Rattle.std.specs.Prelude.{◌≡◌, ℕ, IfOk, OnOk, ◌==◌, None, Some, if◌then◌else◌};
 ghost use Rattle.merge_graph.specs.Faces.{kept_face};
 
 use gk_base::NoMemory;

@@ -2,7 +2,7 @@
 //! label with another name are spelled.
 
 ghost use Rattle.std.specs.Prelude.{◌≡◌, ◌<◌, ℕ, IfOk, OnOk, IfSome, length, ◌==◌, Some, if◌then◌else◌};
-ghost use Rattle.term_text.specs.CanonicalText.{term_text, texts_of};
+ghost use Rattle.term_text.specs.CanonicalText.{texts_of};
 ghost use Rattle.chase_laws.specs.Report.{text_at};
 ghost use Rattle.merge_graph.specs.MergedGraph.{name_at, same_label, AreFaces};
 ghost use Rattle.merge_graph.specs.Faces.{kept_face, lesser, next_face, KeepsFaces};
