@@ -1,0 +1,5 @@
+-- what callers of this crate read
+pub mod Kept
+pub mod Needed
+-- inner words of the proofs
+pub mod Marking
