@@ -1,1 +1,5 @@
+mod WayLemmas
+mod SlotLemmas
 mod KeptLemmas
+mod NeedLemmas
+mod MarkLemmas

@@ -1,6 +1,6 @@
 //! Which entries of a journal are needed.
 
-ghost use Rattle.std.specs.Prelude.{◌≡◌, ℕ, ◌+◌, ◌<◌, ◌≤◌, ◌^◌, List, Some, IfOk, OnOk, All, length};
+ghost use Rattle.std.specs.Prelude.{◌≡◌, ℕ, ◌+◌, ◌<◌, ◌≤◌, ◌^◌, List, Some, IfOk, OnOk, All, false, length, replicate};
 ghost use Rattle.chase_laws.specs.Shape.{is_entity, PatternFacts};
 ghost use Rattle.proof_graph.specs.Built.{IsJoinedAt};
 ghost use Rattle.why_pair.specs.Needed.{needs_of};
@@ -78,6 +78,31 @@ fn mark_needs(
     Ok(())
 }
 
+/// Marks the goal's places, and then what entries that are marked need, from the last entry to the first.
+fn mark_all(
+    alloc: Global,
+    ways: &Ways<'_>,
+    journal: &[Entry],
+    patterns: &[Pattern],
+    goal: &[u32],
+    marks: &mut [bool],
+) -> Result<(), NoMemory>
+    requires ways_are { ways.now ≡ journal.now }
+    requires told { CanBeTold patterns.now journal.now }
+    requires goal { All (λ p. p < length journal.now) goal.now }
+    requires count { length marks.old ≡ length journal.now }
+    requires none { marks.old ≡ replicate (length journal.now) false }
+    ensures { OnOk result (MarksFrom patterns.now journal.now goal.now 0 marks.new) }
+{
+    mark(marks, goal);
+    let mut at = journal.len();
+    while 0 < at {
+        at -= 1;
+        mark_needs(alloc, ways, journal, patterns, at, marks)?;
+    }
+    Ok(())
+}
+
 /// A mark for each entry: whether it stands at one of the goal's places, or is needed by an entry that has the mark.
 pub(crate) fn marks(
     alloc: Global,
@@ -92,11 +117,6 @@ pub(crate) fn marks(
     ensures { IfOk result (λ marks. MarksFrom patterns.now journal.now goal.now 0 marks.items) }
 {
     let mut marks = vec![in alloc; false; journal.len()]?;
-    mark(&mut marks, goal);
-    let mut at = journal.len();
-    while 0 < at {
-        at -= 1;
-        mark_needs(alloc, ways, journal, patterns, at, &mut marks)?;
-    }
+    mark_all(alloc, ways, journal, patterns, goal, &mut marks)?;
     Ok(marks)
 }
