@@ -3,3 +3,4 @@ mod SlotLemmas
 mod KeptLemmas
 mod NeedLemmas
 mod MarkLemmas
+mod LinkLemmas

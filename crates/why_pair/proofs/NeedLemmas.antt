@@ -30,6 +30,21 @@ flat_in f [] y k x at h = absurd cc
 flat_in f (z ∷ xs) y zero x at h = let same : x ≡ z = cc in Contains-append_left (f z) (flat_map f xs) y (subst (λ w. Contains (f w) y) same h)
 flat_in f (z ∷ xs) y (suc k) x at h = Contains-append_right (f z) (flat_map f xs) y (flat_in f xs y k x at h)
 
+-- ---- ways along a whole journal
+
+whole : {X : Type 0} (n : ℕ) (xs : List X) → length xs ≤ n → take n xs ≡ xs
+whole zero [] l = refl
+whole zero (x ∷ xs) l = absurd (omega arith)
+whole (suc n) [] l = refl
+whole (suc n) (x ∷ xs) l = ap (λ ys. x ∷ ys) (whole n xs (omega arith))
+
+pub all_links : (H : List Entry) → take (length H) (links H) ≡ links H
+all_links H = let n : length (links H) ≡ length H = length-map H (λ (f : Entry). (f.a, f.b)) in whole (length H) (links H) (omega arith)
+
+pub way_inside : (H : List Entry) (a b : ℕ) → joined_by H a b ≡ true → All (λ p. p < length H) (way (links H) (length H) a b)
+way_inside H a b h k d l =
+    (on_way (links H) (length H) a b (ap (λ ps. joined ps a b) (all_links H) ∙ h) k (get_or (way (links H) (length H) a b) k d) (slice_get-get_or (way (links H) (length H) a b) k d l)).below
+
 -- ---- the images of an entry at an entity variable but the first
 
 pub links-take : (i : ℕ) (H : List Entry) → take i (links H) ≡ links (take i H)
@@ -89,7 +104,7 @@ module _ (names : ℕ) (K : List Shape) (H : List Entry) (sup : AreSupported nam
       let u = sup p e at in
       let same : u.pattern ≡ Q = (let two : Some u.pattern ≡ Some Q = sym u.key ∙ key in cc) in
       let l = slice_get_within H p e at in
-      let n : length (links H) ≡ length H = length-map H (λ (f : Entry). (f.a, f.b)) in (
+      (
         u.left_count ∙ ap (λ (P : Shape). length P.slots) same,
         u.right_count ∙ ap (λ (P : Shape). length P.slots) same,
         λ s t there nonzero.
@@ -97,12 +112,5 @@ module _ (names : ℕ) (K : List Shape) (H : List Entry) (sup : AreSupported nam
             let y = slice_index e.right s in
             let before : joined (take p (links H)) x y ≡ true =
                 ap (λ ps. joined ps x y) (links-take p H) ∙ u.joined s t (ap (λ (P : Shape). slice_get P.slots s) same ∙ there) nonzero in
-            let all : take (length H) (links H) ≡ links H = whole (length H) (links H) (omega arith) in
-            ap (λ ps. joined ps x y) (sym all) ∙ fronts (links H) p (length H) (omega arith) x y before,
+            ap (λ ps. joined ps x y) (sym (all_links H)) ∙ fronts (links H) p (length H) (omega arith) x y before,
       )
-    where
-      whole : {X : Type 0} (n : ℕ) (xs : List X) → length xs ≤ n → take n xs ≡ xs
-      whole zero [] l = refl
-      whole zero (x ∷ xs) l = absurd (omega arith)
-      whole (suc n) [] l = refl
-      whole (suc n) (x ∷ xs) l = ap (λ ys. x ∷ ys) (whole n xs (omega arith))

@@ -3,3 +3,4 @@ pub mod Kept
 pub mod Needed
 -- inner words of the proofs
 pub mod Marking
+pub mod Relinked

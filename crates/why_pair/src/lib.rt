@@ -6,7 +6,9 @@
 //! - `laws`: what holds of parts of a derivation
 #![tactic(auto)]
 
+mod keeping;
 mod laws;
 mod marking;
+mod relinking;
 
 pub use laws::law_part;
