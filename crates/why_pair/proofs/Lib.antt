@@ -4,3 +4,6 @@ mod KeptLemmas
 mod NeedLemmas
 mod MarkLemmas
 mod LinkLemmas
+mod LeadLemmas
+mod PartLemmas
+mod WhyLemmas

@@ -36,19 +36,13 @@ length-with_each make entries [] l = refl
 length-with_each make [] (s ∷ steps) l = absurd (omega arith)
 length-with_each make (f ∷ entries) (s ∷ steps) l = ap suc (length-with_each make entries steps (omega arith))
 
--- the step at a place
-pub record MadeAt {S : Type 0} (make : Entry → S → S) (entries : List Entry) (steps : List S) (k : ℕ) (made : S) : Type 0 where
-  pub entry : Entry
-  pub step : S
-  pub entry_at : slice_get entries k ≡ Some entry
-  pub step_at : slice_get steps k ≡ Some step
-  pub is : make entry step ≡ made
-
-pub made_at : {S : Type 0} (make : Entry → S → S) (entries : List Entry) (steps : List S) (k : ℕ) (made : S) → slice_get (with_each make entries steps) k ≡ Some made → MadeAt make entries steps k made
-made_at make entries [] k made at = absurd cc
-made_at make [] (s ∷ steps) k made at = absurd cc
-made_at make (f ∷ entries) (s ∷ steps) zero made at = record { entry = f; step = s; entry_at = refl; step_at = refl; is = cc }
-made_at make (f ∷ entries) (s ∷ steps) (suc k) made at = let r = made_at make entries steps k made at in record { entry = r.entry; step = r.step; entry_at = r.entry_at; step_at = r.step_at; is = r.is }
+-- the step of an entry
+pub made_at : {S : Type 0} (make : Entry → S → S) (entries : List Entry) (steps : List S) (k : ℕ) (e : Entry) (made : S) → slice_get entries k ≡ Some e → slice_get (with_each make entries steps) k ≡ Some made →
+    (step : S) × (slice_get steps k ≡ Some step) × (make e step ≡ made)
+made_at make entries [] k e made there at = absurd cc
+made_at make [] (s ∷ steps) k e made there at = absurd cc
+made_at make (f ∷ entries) (s ∷ steps) zero e made there at = let same : f ≡ e = cc in let is : make f s ≡ made = cc in (s, refl, ap (λ g. make g s) (sym same) ∙ is)
+made_at make (f ∷ entries) (s ∷ steps) (suc k) e made there at = made_at make entries steps k e made there at
 
 pub make_at : {S : Type 0} (make : Entry → S → S) (entries : List Entry) (steps : List S) (k : ℕ) (e : Entry) (s : S) → slice_get entries k ≡ Some e → slice_get steps k ≡ Some s → slice_get (with_each make entries steps) k ≡ Some (make e s)
 make_at make entries [] k e s at is = absurd cc
