@@ -7,3 +7,4 @@ mod LinkLemmas
 mod LeadLemmas
 mod PartLemmas
 mod WhyLemmas
+mod FoundLemmas
