@@ -11,11 +11,12 @@
 #![tactic(auto)]
 
 mod answer;
-pub mod asking;
+mod asking;
 mod keeping;
 mod laws;
 mod marking;
 mod relinking;
 
 pub use answer::Why;
+pub use asking::why;
 pub use laws::law_part;
