@@ -1,5 +1,5 @@
 -- What is answered for two names.
-use Rattle.std.proofs.Common.{List, [], ◌++◌, ℕ, ◌+◌, ◌-◌, ◌<◌, ◌≤◌, ◌^◌, Bool, true, Some, All, length, map, slice_get, get_or, ◌≡◌, refl, sym, ap, ap₂, subst, ◌∙◌, arith}
+use Rattle.std.proofs.Common.{List, [], ◌++◌, ℕ, ◌<◌, ◌≤◌, Bool, true, Some, All, length, map, slice_get, get_or, ◌≡◌, sym, ap, ap₂, subst, ◌∙◌, arith}
 use Rattle.std.proofs.lemmas.Option.{slice_get-get_or}
 use Rattle.gk_base.specs.declared.term.Term.{Term}
 use Rattle.chase_laws.specs.declared.entry.Entry.{Entry}
@@ -48,7 +48,7 @@ module _ (names : List Term) (distinct : AreDistinct names) (K : List Shape) (ke
   answer_is a b ha hb joins are marks m ways told entries kept goal_kept goal_places goal steps made same told_is entries_are kept_is goal_kept_is goal_places_are tells made_is goal_is =
       let t = subst (λ E. TellsAll names K key_names E steps) told_is tells in
       let steps_are : anew names distinct K key_names facts H sup marks places m steps t ≡ made =
-          sym (made_is ∙ ap (λ J. with_each (relinked_step J kept) entries steps) same ∙ ap₂ (λ P E. with_each (relinked_step H P) E steps) kept_is entries_are) in
+      sym (made_is ∙ ap (λ J. with_each (relinked_step J kept) entries steps) same ∙ ap₂ (λ P E. with_each (relinked_step H P) E steps) kept_is entries_are) in
       let numbers_are : goal_numbers names distinct K key_names facts H sup marks places m steps t ≡ goal = sym (goal_is ∙ ap₂ (λ P ps. map (step_number P) ps) goal_kept_is goal_places_are) in
       subst (λ s. IsAnswer names K key_names H a b s goal) steps_are
       (subst (λ g. IsAnswer names K key_names H a b (anew names distinct K key_names facts H sup marks places m steps t) g) numbers_are (record {

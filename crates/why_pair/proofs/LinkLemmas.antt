@@ -1,13 +1,13 @@
 -- Steps with supports anew.
-use Rattle.std.proofs.Common.{List, [], ◌∷◌, ◌++◌, ℕ, zero, suc, ◌+◌, ◌<◌, ◌≤◌, Some, All, map, length, slice_get, ◌≡◌, refl, sym, ap, ap₂, subst, ◌∙◌, arith}
+use Rattle.std.proofs.Common.{List, [], ◌∷◌, ◌++◌, ℕ, zero, suc, ◌≤◌, Some, All, map, length, slice_get, ◌≡◌, refl, sym, ap, ap₂, ◌∙◌, arith}
 use Rattle.std.specs.Iterator.{Yields}
 use Rattle.std.specs.Vec.Iter.{into_iter_items, into_iter_steps}
 use Rattle.std.specs.declared.vec.IntoIter.{IntoIter}
-use Rattle.std.proofs.lemmas.List.Elements.{All-nil, All-cons, All-head, All-tail}
+use Rattle.std.proofs.lemmas.List.Elements.{All-cons, All-head, All-tail}
 use Rattle.gk_base.specs.declared.term.Term.{Term}
 use Rattle.chase_laws.specs.declared.entry.Entry.{Entry}
 use Rattle.term_table.specs.Numbering.{names_of}
-use Rattle.proof_graph.specs.Steps.{StepShape, StepNumbers, step_terms, steps_terms, step_with, IsNumberedBelow, IsProof}
+use Rattle.proof_graph.specs.Steps.{StepNumbers, step_terms, steps_terms, step_with, IsNumberedBelow, IsProof}
 use Rattle.why_pair.specs.Relinked.{relinked_numbers, relinked_step, with_each}
 
 -- what the iterator of a vector has given is a front of its items

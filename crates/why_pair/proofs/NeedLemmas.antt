@@ -1,5 +1,5 @@
 -- What entries of a journal need.
-use Rattle.std.proofs.Common.{List, [], ◌∷◌, ◌++◌, ℕ, zero, suc, ◌+◌, ◌<◌, ◌≤◌, true, Some, All, Contains, length, slice_get, slice_index, get_or, take, ◌≡◌, ◌≢◌, inl, inr, refl, sym, ap, subst, ◌∙◌, arith}
+use Rattle.std.proofs.Common.{List, [], ◌∷◌, ℕ, zero, suc, ◌<◌, ◌≤◌, true, Some, All, Contains, length, slice_get, slice_index, get_or, take, ◌≡◌, inl, inr, refl, sym, ap, subst, ◌∙◌, arith}
 use Rattle.std.specs.List.{flat_map}
 use Rattle.std.proofs.lemmas.List.{length-map, take-map}
 use Rattle.std.proofs.lemmas.List.Elements.{Contains-append_left, Contains-append_right, Contains-append_cases}
@@ -8,13 +8,13 @@ use Rattle.chase_laws.specs.declared.entry.Entry.{Entry}
 use Rattle.chase_laws.specs.declared.pattern.Slot.TheVariants.{Entity}
 use Rattle.chase_laws.specs.Shape.{Shape}
 use Rattle.chase_laws.specs.Joined.{joined, joined_by, links}
-use Rattle.chase_laws.proofs.CallerLemmas.{Contains-from_slice_get, slice_get-from_Contains}
+use Rattle.chase_laws.proofs.CallerLemmas.{slice_get-from_Contains}
 use Rattle.proof_graph.specs.Way.{way}
-use Rattle.proof_graph.specs.Tells.{supported_slots, IsSupported, AreSupported}
+use Rattle.proof_graph.specs.Tells.{supported_slots, AreSupported}
 use Rattle.proof_graph.specs.Built.{pattern_at, IsJoinedAt}
 use Rattle.why_pair.specs.Needed.{way_at, needs_of}
 use Rattle.why_pair.proofs.WayLemmas.{fronts, way-stable, on_way}
-use Rattle.why_pair.proofs.SlotLemmas.{supported_at, supported_has}
+use Rattle.why_pair.proofs.SlotLemmas.{supported_at}
 
 -- ---- lists of lists
 
@@ -103,14 +103,13 @@ module _ (names : ℕ) (K : List Shape) (H : List Entry) (sup : AreSupported nam
   joined_all Q key =
       let u = sup p e at in
       let same : u.pattern ≡ Q = (let two : Some u.pattern ≡ Some Q = sym u.key ∙ key in cc) in
-      let l = slice_get_within H p e at in
-      (
+      let l = slice_get_within H p e at in (
         u.left_count ∙ ap (λ (P : Shape). length P.slots) same,
         u.right_count ∙ ap (λ (P : Shape). length P.slots) same,
         λ s t there nonzero.
             let x = slice_index e.left s in
             let y = slice_index e.right s in
             let before : joined (take p (links H)) x y ≡ true =
-                ap (λ ps. joined ps x y) (links-take p H) ∙ u.joined s t (ap (λ (P : Shape). slice_get P.slots s) same ∙ there) nonzero in
+            ap (λ ps. joined ps x y) (links-take p H) ∙ u.joined s t (ap (λ (P : Shape). slice_get P.slots s) same ∙ there) nonzero in
             ap (λ ps. joined ps x y) (sym (all_links H)) ∙ fronts (links H) p (length H) (omega arith) x y before,
       )

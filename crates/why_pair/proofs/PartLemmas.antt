@@ -1,6 +1,5 @@
 -- The entries that are kept of a journal: what leads between names along it, leads along them.
-use Rattle.std.proofs.Common.{List, [], ◌∷◌, ℕ, zero, suc, ◌+◌, ◌<◌, ◌≤◌, Bool, true, nat_eq, Option, Some, None, option_map, IsTrue, All, Contains, length, map, slice_get, slice_index, get_or, take, ◌≡◌, ◌≢◌, refl, sym, ap, subst, ◌∙◌, arith}
-use Rattle.std.proofs.lemmas.List.{length-map}
+use Rattle.std.proofs.Common.{List, [], ◌∷◌, ℕ, zero, suc, ◌<◌, Bool, true, nat_eq, Some, option_map, IsTrue, length, map, slice_get, slice_index, get_or, take, ◌≡◌, ◌≢◌, refl, sym, ap, subst, ◌∙◌, arith}
 use Rattle.std.proofs.lemmas.Option.{slice_get_within, slice_get-get_or, slice_get-map}
 use Rattle.chase_laws.specs.declared.entry.Entry.{Entry}
 use Rattle.chase_laws.specs.declared.pattern.Slot.{Slot}
@@ -16,12 +15,12 @@ use Rattle.proof_graph.specs.Way.{way}
 use Rattle.proof_graph.specs.Tells.{supported_slots, AreSupported}
 use Rattle.proof_graph.specs.Built.{pattern_at}
 use Rattle.why_pair.specs.Kept.{kept_by, place_kept}
-use Rattle.why_pair.specs.Needed.{way_at, needs_of}
+use Rattle.why_pair.specs.Needed.{way_at}
 use Rattle.why_pair.specs.Marking.{IsMarkedAt, MarksFrom}
 use Rattle.why_pair.proofs.WayLemmas.{fronts, way-end_along}
 use Rattle.why_pair.proofs.SlotLemmas.{supported_has}
 use Rattle.why_pair.proofs.KeptLemmas.{at_kept, kept_at, place_less}
-use Rattle.why_pair.proofs.NeedLemmas.{flat_in, links-take, all_links, pattern_is, SlotOf, slot_of, way_below, way_inside}
+use Rattle.why_pair.proofs.NeedLemmas.{flat_in, all_links, pattern_is, slot_of, way_below}
 use Rattle.why_pair.proofs.LeadLemmas.{led_joined, led_same}
 
 slice-take : {X : Type 0} (xs : List X) (i n : ℕ) → n < i → slice_get (take i xs) n ≡ slice_get xs n

@@ -1,5 +1,5 @@
 -- Slots that a step has supports for.
-use Rattle.std.proofs.Common.{List, [], ◌∷◌, ℕ, zero, suc, ◌+◌, ◌<◌, Some, slice_get, ◌≡◌, ◌≢◌, refl, sym, ap, ◌∙◌, arith}
+use Rattle.std.proofs.Common.{List, [], ◌∷◌, ℕ, zero, suc, ◌+◌, Some, slice_get, ◌≡◌, ◌≢◌, refl, ap, ◌∙◌, arith}
 use Rattle.chase_laws.specs.declared.pattern.Slot.{Slot}
 use Rattle.chase_laws.specs.declared.pattern.Slot.TheVariants.{Entity, Any, Value, Folded, Fixed}
 use Rattle.proof_graph.specs.Tells.{entities_from, supported_slots}

@@ -1,8 +1,8 @@
 -- The steps of what is kept, with supports anew: they tell the kept entries, each is reached, and none stands twice in a support.
-use Rattle.std.proofs.Common.{List, [], ◌∷◌, ℕ, zero, suc, ◌+◌, ◌<◌, ◌≤◌, Bool, true, nat_eq, Option, Some, option_map, IsTrue, All, AllPairs, Contains, length, map, slice_get, slice_index, get_or, take, ◌≡◌, ◌≢◌, refl, sym, ap, ap₂, subst, ◌∙◌, arith, eq-eqb}
+use Rattle.std.proofs.Common.{List, [], ◌∷◌, ℕ, zero, suc, ◌+◌, ◌<◌, Bool, true, nat_eq, Some, option_map, All, Contains, length, map, slice_get, slice_index, get_or, take, ◌≡◌, refl, sym, ap, ap₂, subst, ◌∙◌, arith, eq-eqb}
 use Rattle.std.specs.List.{list_all}
 use Rattle.std.proofs.lemmas.Bool.{and_from}
-use Rattle.std.proofs.lemmas.List.{length-map, length-take-le, take-map, get_or-map}
+use Rattle.std.proofs.lemmas.List.{length-take-le, take-map, get_or-map}
 use Rattle.std.proofs.lemmas.Option.{slice_get-map, slice_get_within, slice_get-get_or}
 use Rattle.gk_base.specs.declared.term.Term.{Term}
 use Rattle.gk_base.specs.declared.term.Term.TheVariants.{Plain}
@@ -14,11 +14,11 @@ use Rattle.term_table.specs.Numbering.{same_term, AreDistinct}
 use Rattle.proof_graph.specs.Leads.{end_along, arrives, links_lead}
 use Rattle.proof_graph.specs.Way.{way}
 use Rattle.proof_graph.specs.Steps.{SupportShape, StepShape, term_at, step_ends}
-use Rattle.proof_graph.specs.Tells.{supported_slots, AreSupported, is_earlier, are_earlier, places_of, leads_there, Tells, TellsAll}
+use Rattle.proof_graph.specs.Tells.{supported_slots, AreSupported, are_earlier, places_of, leads_there, Tells, TellsAll}
 use Rattle.proof_graph.specs.Built.{pattern_at}
 use Rattle.proof_graph.proofs.CallerLemmas.{leads_same}
 use Rattle.why_pair.specs.Kept.{kept_by, place_kept}
-use Rattle.why_pair.specs.Needed.{way_at, needs_of, IsNeeded, in_goal, by_entry}
+use Rattle.why_pair.specs.Needed.{way_at, IsNeeded, in_goal, by_entry}
 use Rattle.why_pair.specs.Marking.{IsMarkedAt, MarksFrom}
 use Rattle.why_pair.specs.Relinked.{places_from, step_number, IsLinked, relinked, relinked_step, with_each}
 use Rattle.why_pair.specs.Why.{StepsLead, NoneTwice, NoneTwiceInSupports, IsStepReached, of_goal, of_step, AllReached, TellsPart}
@@ -27,7 +27,7 @@ use Rattle.why_pair.proofs.KeptLemmas.{at_kept, kept_at}
 use Rattle.why_pair.proofs.NeedLemmas.{in_flat, links-take, all_links, pattern_is, slot_of}
 use Rattle.why_pair.proofs.LinkLemmas.{made_at, make_at, length-with_each}
 use Rattle.why_pair.proofs.LeadLemmas.{number_is, numbers_back, numbers_earlier, none_twice}
-use Rattle.why_pair.proofs.PartLemmas.{way_marked, kept_leads, kept_supported, kept_derivation, goal_marked, goal_placed, goal_leads, ends_named}
+use Rattle.why_pair.proofs.PartLemmas.{way_marked, kept_leads, kept_derivation, goal_marked, goal_placed, goal_leads, ends_named}
 
 -- ---- lists
 
@@ -142,8 +142,8 @@ module _ (names : List Term) (distinct : AreDistinct names) (K : List Shape) (ke
       let left : term_at step.left s ≡ term_at names x = ap (λ l. term_at l s) t.left ∙ get_or-map (term_at names) e.left s 0 (Plain []) o.left in
       let right : term_at step.right s ≡ term_at names y = ap (λ l. term_at l s) t.right ∙ get_or-map (term_at names) e.right s 0 (Plain []) o.right in
       let numbers : links_lead nat_eq front (map (place_kept marks) W) x y ≡ true =
-          ap (λ n. arrives nat_eq (end_along nat_eq (links (take n kept)) (map (place_kept marks) W) (Some x)) y) (sym r.is)
-          ∙ ap (λ p. arrives nat_eq p y) (kept_leads (length names) K H sup marks goal m r.place e r.at r.marked j s in_slots) ∙ eq-eqb y y refl in
+      ap (λ n. arrives nat_eq (end_along nat_eq (links (take n kept)) (map (place_kept marks) W) (Some x)) y) (sym r.is)
+      ∙ ap (λ p. arrives nat_eq p y) (kept_leads (length names) K H sup marks goal m r.place e r.at r.marked j s in_slots) ∙ eq-eqb y y refl in
       ap (λ ends. links_lead same_term ends ns (term_at step.left s) (term_at step.right s)) (ends_before k)
       ∙ ap (λ l. links_lead same_term (map both front) l (term_at step.left s) (term_at step.right s)) back
       ∙ ap₂ (λ v w. links_lead same_term (map both front) (map (place_kept marks) W) v w) left right
@@ -229,9 +229,9 @@ module _ (names : List Term) (distinct : AreDistinct names) (K : List Shape) (ke
       let marked = goal_marked (length names) K H sup marks goal m in (
         numbers_earlier marks goal (length anew) (λ j q at. let l = goal_placed (length names) K H sup marks goal m j q at in (marked j q at, omega arith)),
         ap (λ ends. links_lead same_term ends (places_of goal_numbers) (term_at names a) (term_at names b)) ends_anew
-        ∙ ap (λ l. links_lead same_term (map both (links kept)) l (term_at names a) (term_at names b)) (numbers_back marks goal marked)
-        ∙ sym (leads_same names distinct (links kept) (links_in kept (λ k e at. at)) (map (place_kept marks) goal) a b ha hb)
-        ∙ ap (λ o. arrives nat_eq o b) (goal_leads (length names) K H sup marks goal m a b joins is) ∙ eq-eqb b b refl,
+            ∙ ap (λ l. links_lead same_term (map both (links kept)) l (term_at names a) (term_at names b)) (numbers_back marks goal marked)
+            ∙ sym (leads_same names distinct (links kept) (links_in kept (λ k e at. at)) (map (place_kept marks) goal) a b ha hb)
+            ∙ ap (λ o. arrives nat_eq o b) (goal_leads (length names) K H sup marks goal m a b joins is) ∙ eq-eqb b b refl,
       )
 
   -- ---- each step is reached
@@ -262,7 +262,7 @@ module _ (names : List Term) (distinct : AreDistinct names) (K : List Shape) (ke
       let t = told.each k e s.0 there s.1 in
       let w = in_flat (way_at H e) (supported_slots (pattern_at K e.key).slots) p h in
       let in_slots : slice_get (map (λ (v : SupportShape). v.slot) s.0.supports) w.0 ≡ Some w.1 =
-          ap (λ l. slice_get l w.0) t.slots ∙ ap (λ (P : Shape). slice_get (supported_slots P.slots) w.0) (sym (pattern_is K e.key t.pattern t.found)) ∙ w.2 in
+      ap (λ l. slice_get l w.0) t.slots ∙ ap (λ (P : Shape). slice_get (supported_slots P.slots) w.0) (sym (pattern_is K e.key t.pattern t.found)) ∙ w.2 in
       let u = slice_get-map_from (λ (v : SupportShape). v.slot) s.0.supports w.0 w.1 in_slots in
       let on_way = subst (λ n. Contains (way_at H e n) p) (sym u.2) w.3 in
       of_step k (relinked_step H places e s.0) (relinked H places e u.0) (needed_reached q needed)

@@ -9,11 +9,7 @@ use gk_base::NoMemory;
 use std::alloc::Global;
 
 /// The entries that have the mark, in their order.
-pub(crate) fn kept(
-    alloc: Global,
-    journal: &[Entry],
-    marks: &[bool],
-) -> Result<Vec<Entry>, NoMemory>
+pub(crate) fn kept(alloc: Global, journal: &[Entry], marks: &[bool]) -> Result<Vec<Entry>, NoMemory>
     requires { length marks.now ≡ length journal.now }
     ensures { IfOk result (λ kept. kept.items ≡ kept_by marks.now journal.now) }
 {

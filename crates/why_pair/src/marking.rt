@@ -33,12 +33,7 @@ fn needs(
     let mut places = Vec::new(alloc);
     for at in 1..slots.len() {
         if is_entity(slots[at]) {
-            ways.put(
-                alloc,
-                entry.left.get(at),
-                entry.right.get(at),
-                &mut places,
-            )?;
+            ways.put(alloc, entry.left.get(at), entry.right.get(at), &mut places)?;
         }
     }
     Ok(places)

@@ -1,4 +1,4 @@
-use Rattle.std.proofs.Common.{List, ℕ, ◌<◌, ◌≤◌, ◌≡◌, true, not, All, length, map, sym, ap, subst, ◌∙◌, arith}
+use Rattle.std.proofs.Common.{◌<◌, ◌≡◌, true, All, length, map, sym, ap, subst, ◌∙◌}
 use Rattle.chase_laws.specs.Chase.{IsDerivation}
 use Rattle.chase_laws.specs.Joined.{joined_by}
 use Rattle.key_file.specs.KeyShape.{KeyShape}
@@ -105,8 +105,8 @@ returns-clause-leads c =
     let goal_kept = c.deref-7.ensures.value ∙ c.in_ok-places.ensures ∙ ap (places_from 0) c.deref-3.ensures.value in
     let goal_places = c.deref-8.ensures.value ∙ sym c.deref.ensures.value in
     let answer = answer_is names c.len-distinct.ensures.distinct K key_names c.all_valid.ensures.facts H c.requires.supported c.deref.result.now c.args.a c.args.b c.requires.a c.requires.b joins are marks m
-        c.in_ok-ways.ways c.deref-4.result.now c.deref-6.result.now c.deref-5.result.now c.deref-7.result.now c.deref-8.result.now c.in_ok-goal.goal.items c.in_ok-proof.proof c.in_ok-proof-2.proof
-        c.in_ok-ways.ensures told entries kept goal_kept goal_places c.in_ok-proof.ensures c.in_ok-proof-2.ensures c.in_ok-goal.ensures in
+    c.in_ok-ways.ways c.deref-4.result.now c.deref-6.result.now c.deref-5.result.now c.deref-7.result.now c.deref-8.result.now c.in_ok-goal.goal.items c.in_ok-proof.proof c.in_ok-proof-2.proof
+    c.in_ok-ways.ensures told entries kept goal_kept goal_places c.in_ok-proof.ensures c.in_ok-proof-2.ensures c.in_ok-goal.ensures in
     answer.leads
 
 pub returns-clause-once : goal.returns-clause-once
@@ -126,8 +126,8 @@ returns-clause-once c =
     let goal_kept = c.deref-7.ensures.value ∙ c.in_ok-places.ensures ∙ ap (places_from 0) c.deref-3.ensures.value in
     let goal_places = c.deref-8.ensures.value ∙ sym c.deref.ensures.value in
     let answer = answer_is names c.len-distinct.ensures.distinct K key_names c.all_valid.ensures.facts H c.requires.supported c.deref.result.now c.args.a c.args.b c.requires.a c.requires.b joins are marks m
-        c.in_ok-ways.ways c.deref-4.result.now c.deref-6.result.now c.deref-5.result.now c.deref-7.result.now c.deref-8.result.now c.in_ok-goal.goal.items c.in_ok-proof.proof c.in_ok-proof-2.proof
-        c.in_ok-ways.ensures told entries kept goal_kept goal_places c.in_ok-proof.ensures c.in_ok-proof-2.ensures c.in_ok-goal.ensures in
+    c.in_ok-ways.ways c.deref-4.result.now c.deref-6.result.now c.deref-5.result.now c.deref-7.result.now c.deref-8.result.now c.in_ok-goal.goal.items c.in_ok-proof.proof c.in_ok-proof-2.proof
+    c.in_ok-ways.ensures told entries kept goal_kept goal_places c.in_ok-proof.ensures c.in_ok-proof-2.ensures c.in_ok-goal.ensures in
     answer.once
 
 pub returns-clause-supports_once : goal.returns-clause-supports_once
@@ -147,8 +147,8 @@ returns-clause-supports_once c =
     let goal_kept = c.deref-7.ensures.value ∙ c.in_ok-places.ensures ∙ ap (places_from 0) c.deref-3.ensures.value in
     let goal_places = c.deref-8.ensures.value ∙ sym c.deref.ensures.value in
     let answer = answer_is names c.len-distinct.ensures.distinct K key_names c.all_valid.ensures.facts H c.requires.supported c.deref.result.now c.args.a c.args.b c.requires.a c.requires.b joins are marks m
-        c.in_ok-ways.ways c.deref-4.result.now c.deref-6.result.now c.deref-5.result.now c.deref-7.result.now c.deref-8.result.now c.in_ok-goal.goal.items c.in_ok-proof.proof c.in_ok-proof-2.proof
-        c.in_ok-ways.ensures told entries kept goal_kept goal_places c.in_ok-proof.ensures c.in_ok-proof-2.ensures c.in_ok-goal.ensures in
+    c.in_ok-ways.ways c.deref-4.result.now c.deref-6.result.now c.deref-5.result.now c.deref-7.result.now c.deref-8.result.now c.in_ok-goal.goal.items c.in_ok-proof.proof c.in_ok-proof-2.proof
+    c.in_ok-ways.ensures told entries kept goal_kept goal_places c.in_ok-proof.ensures c.in_ok-proof-2.ensures c.in_ok-goal.ensures in
     answer.supports_once
 
 pub returns-clause-reached : goal.returns-clause-reached
@@ -168,8 +168,8 @@ returns-clause-reached c =
     let goal_kept = c.deref-7.ensures.value ∙ c.in_ok-places.ensures ∙ ap (places_from 0) c.deref-3.ensures.value in
     let goal_places = c.deref-8.ensures.value ∙ sym c.deref.ensures.value in
     let answer = answer_is names c.len-distinct.ensures.distinct K key_names c.all_valid.ensures.facts H c.requires.supported c.deref.result.now c.args.a c.args.b c.requires.a c.requires.b joins are marks m
-        c.in_ok-ways.ways c.deref-4.result.now c.deref-6.result.now c.deref-5.result.now c.deref-7.result.now c.deref-8.result.now c.in_ok-goal.goal.items c.in_ok-proof.proof c.in_ok-proof-2.proof
-        c.in_ok-ways.ensures told entries kept goal_kept goal_places c.in_ok-proof.ensures c.in_ok-proof-2.ensures c.in_ok-goal.ensures in
+    c.in_ok-ways.ways c.deref-4.result.now c.deref-6.result.now c.deref-5.result.now c.deref-7.result.now c.deref-8.result.now c.in_ok-goal.goal.items c.in_ok-proof.proof c.in_ok-proof-2.proof
+    c.in_ok-ways.ensures told entries kept goal_kept goal_places c.in_ok-proof.ensures c.in_ok-proof-2.ensures c.in_ok-goal.ensures in
     answer.reached
 
 pub returns-clause-tells : goal.returns-clause-tells
@@ -189,8 +189,8 @@ returns-clause-tells c =
     let goal_kept = c.deref-7.ensures.value ∙ c.in_ok-places.ensures ∙ ap (places_from 0) c.deref-3.ensures.value in
     let goal_places = c.deref-8.ensures.value ∙ sym c.deref.ensures.value in
     let answer = answer_is names c.len-distinct.ensures.distinct K key_names c.all_valid.ensures.facts H c.requires.supported c.deref.result.now c.args.a c.args.b c.requires.a c.requires.b joins are marks m
-        c.in_ok-ways.ways c.deref-4.result.now c.deref-6.result.now c.deref-5.result.now c.deref-7.result.now c.deref-8.result.now c.in_ok-goal.goal.items c.in_ok-proof.proof c.in_ok-proof-2.proof
-        c.in_ok-ways.ensures told entries kept goal_kept goal_places c.in_ok-proof.ensures c.in_ok-proof-2.ensures c.in_ok-goal.ensures in
+    c.in_ok-ways.ways c.deref-4.result.now c.deref-6.result.now c.deref-5.result.now c.deref-7.result.now c.deref-8.result.now c.in_ok-goal.goal.items c.in_ok-proof.proof c.in_ok-proof-2.proof
+    c.in_ok-ways.ensures told entries kept goal_kept goal_places c.in_ok-proof.ensures c.in_ok-proof-2.ensures c.in_ok-goal.ensures in
     answer.tells
 
 pub returns-clause-accepted : goal.returns-clause-accepted
@@ -210,14 +210,14 @@ returns-clause-accepted c =
     let goal_kept = c.deref-7.ensures.value ∙ c.in_ok-places.ensures ∙ ap (places_from 0) c.deref-3.ensures.value in
     let goal_places = c.deref-8.ensures.value ∙ sym c.deref.ensures.value in
     let answer = answer_is names c.len-distinct.ensures.distinct K key_names c.all_valid.ensures.facts H c.requires.supported c.deref.result.now c.args.a c.args.b c.requires.a c.requires.b joins are marks m
-        c.in_ok-ways.ways c.deref-4.result.now c.deref-6.result.now c.deref-5.result.now c.deref-7.result.now c.deref-8.result.now c.in_ok-goal.goal.items c.in_ok-proof.proof c.in_ok-proof-2.proof
-        c.in_ok-ways.ensures told entries kept goal_kept goal_places c.in_ok-proof.ensures c.in_ok-proof-2.ensures c.in_ok-goal.ensures in
+    c.in_ok-ways.ways c.deref-4.result.now c.deref-6.result.now c.deref-5.result.now c.deref-7.result.now c.deref-8.result.now c.in_ok-goal.goal.items c.in_ok-proof.proof c.in_ok-proof-2.proof
+    c.in_ok-ways.ensures told entries kept goal_kept goal_places c.in_ok-proof.ensures c.in_ok-proof-2.ensures c.in_ok-goal.ensures in
     let part = answer.tells in
     let steps = c.in_ok-proof-2.proof in
     λ triples keys is_keys names_are patterns_are key_names_are derivation.
-        let G = graph_of (names_for triples keys) triples in
-        let some = kept_by part.marks H in
-        c.law_proof.ensures.accepted triples keys some steps is_keys (subst (λ P. IsDerivation G P some) patterns_are (part.derivation G derivation))
-        (subst (λ n. TellsAll n (patterns_of (names_for triples keys) keys) (map (λ (k : KeyShape). k.name) keys) some steps) names_are
-        (subst (λ P. TellsAll names P (map (λ (k : KeyShape). k.name) keys) some steps) patterns_are
-        (subst (λ ks. TellsAll names K ks some steps) key_names_are part.tells)))
+    let G = graph_of (names_for triples keys) triples in
+    let some = kept_by part.marks H in
+    c.law_proof.ensures.accepted triples keys some steps is_keys (subst (λ P. IsDerivation G P some) patterns_are (part.derivation G derivation))
+    (subst (λ n. TellsAll n (patterns_of (names_for triples keys) keys) (map (λ (k : KeyShape). k.name) keys) some steps) names_are
+    (subst (λ P. TellsAll names P (map (λ (k : KeyShape). k.name) keys) some steps) patterns_are
+    (subst (λ ks. TellsAll names K ks some steps) key_names_are part.tells)))

@@ -1,4 +1,4 @@
-use Rattle.std.proofs.Common.{◌≡◌, drop, length}
+use Rattle.std.proofs.Common.{◌≡◌, drop}
 use Rattle.why_pair.specs.Marking.{with_marks}
 use Rattle.why_pair.proofs.marking.mark.Given as goal
 

@@ -1,4 +1,4 @@
-use Rattle.std.proofs.Common.{◌≤◌, ◌-◌, ◌+◌, ◌<◌, ◌≡◌, length, sym, ap, subst, ◌∙◌, arith}
+use Rattle.std.proofs.Common.{◌-◌, ◌+◌, ◌≡◌, length, sym, subst, arith}
 use Rattle.why_pair.specs.Marking.{MarksFrom}
 use Rattle.why_pair.proofs.MarkLemmas.{goal_marks}
 use Rattle.why_pair.proofs.marking.mark_all.Goals as goal

@@ -1,4 +1,4 @@
-use Rattle.std.proofs.Common.{List, ℕ, ◌≡◌, ◌<◌, Some, true, false, All, Contains, length, slice_get, slice_index, get_or, refl, sym, ap, subst, ◌∙◌, arith, true≢false}
+use Rattle.std.proofs.Common.{List, ℕ, ◌≡◌, ◌<◌, Some, true, false, All, Contains, length, slice_get, get_or, sym, ap, subst, ◌∙◌, arith, true≢false}
 use Rattle.std.proofs.lemmas.List.Elements.{Contains-get_or}
 use Rattle.std.proofs.lemmas.Option.{slice_get_within, slice_get-get_or, get_or_from_slice_get}
 use Rattle.chase_laws.specs.declared.entry.Entry.{Entry}
@@ -72,9 +72,9 @@ mark-requires c =
     let count = c.requires.count in
     let inside = c.requires.inside in
     λ k d l.
-        let below = needs_below c.requires.told.0 K H c.requires.told.1 c.args.at e at (get_or c.deref.result.now k d)
-            (subst (λ places. Contains places (get_or c.deref.result.now k d)) are (Contains-get_or c.deref.result.now k d l)) in
-        omega arith
+    let below = needs_below c.requires.told.0 K H c.requires.told.1 c.args.at e at (get_or c.deref.result.now k d)
+    (subst (λ places. Contains places (get_or c.deref.result.now k d)) are (Contains-get_or c.deref.result.now k d l)) in
+    omega arith
 
 pub returns-in_ok-places : goal.returns-in_ok-places
 returns-in_ok-places c =
