@@ -1,5 +1,5 @@
 -- What is kept of a list, place by place.
-use Rattle.std.proofs.Common.{List, [], ◌∷◌, ℕ, zero, suc, ◌+◌, ◌<◌, Bool, true, false, Some, length, slice_get, get_or, take, drop, ◌≡◌, refl, sym, ap, ap₂, subst, ◌∙◌, arith}
+use Rattle.std.proofs.Common.{List, [], ◌∷◌, ◌++◌, if◌then◌else◌, ℕ, zero, suc, ◌+◌, ◌<◌, Bool, true, false, Some, length, slice_get, get_or, take, drop, ◌≡◌, refl, sym, ap, ap₂, subst, ◌∙◌, arith}
 use Rattle.std.proofs.lemmas.List.{drop_more}
 use Rattle.chase_laws.specs.declared.entry.Entry.{Entry}
 use Rattle.chase_laws.specs.Joined.{joined, links}
@@ -41,21 +41,13 @@ place_less (false ∷ marks) (suc p) (suc q) l marked = place_less marks p q (om
 
 -- ---- one place more
 
-kept_step : {X : Type 0} (mark : Bool) (marks : List Bool) (x : X) (xs : List X) → mark ≡ true → kept_by (mark ∷ marks) (x ∷ xs) ≡ x ∷ kept_by marks xs
-kept_step true marks x xs h = refl
-kept_step false marks x xs h = absurd cc
+kept_one : {X : Type 0} (mark : Bool) (marks : List Bool) (x : X) (xs : List X) → kept_by (mark ∷ marks) (x ∷ xs) ≡ (if mark then x ∷ [] else []) ++ kept_by marks xs
+kept_one true marks x xs = refl
+kept_one false marks x xs = refl
 
-left_step : {X : Type 0} (mark : Bool) (marks : List Bool) (x : X) (xs : List X) → mark ≡ false → kept_by (mark ∷ marks) (x ∷ xs) ≡ kept_by marks xs
-left_step true marks x xs h = absurd cc
-left_step false marks x xs h = refl
-
-pub keeps : {X : Type 0} (marks : List Bool) (xs : List X) (at : ℕ) (m : Bool) (d : X) → at < length marks → at < length xs → get_or marks at m ≡ true →
-    kept_by (drop at marks) (drop at xs) ≡ get_or xs at d ∷ kept_by (drop (at + 1) marks) (drop (at + 1) xs)
-keeps marks xs at m d l k h = ap₂ kept_by (drop_more marks at m l) (drop_more xs at d k) ∙ kept_step (get_or marks at m) (drop (at + 1) marks) (get_or xs at d) (drop (at + 1) xs) h
-
-pub leaves : {X : Type 0} (marks : List Bool) (xs : List X) (at : ℕ) (m : Bool) (d : X) → at < length marks → at < length xs → get_or marks at m ≡ false →
-    kept_by (drop at marks) (drop at xs) ≡ kept_by (drop (at + 1) marks) (drop (at + 1) xs)
-leaves marks xs at m d l k h = ap₂ kept_by (drop_more marks at m l) (drop_more xs at d k) ∙ left_step (get_or marks at m) (drop (at + 1) marks) (get_or xs at d) (drop (at + 1) xs) h
+pub kept_more : {X : Type 0} (marks : List Bool) (xs : List X) (at : ℕ) (m : Bool) (d : X) → at < length marks → at < length xs →
+    kept_by (drop at marks) (drop at xs) ≡ (if get_or marks at m then get_or xs at d ∷ [] else []) ++ kept_by (drop (at + 1) marks) (drop (at + 1) xs)
+kept_more marks xs at m d l k = ap₂ kept_by (drop_more marks at m l) (drop_more xs at d k) ∙ kept_one (get_or marks at m) (drop (at + 1) marks) (get_or xs at d) (drop (at + 1) xs)
 
 -- ---- lean entries
 

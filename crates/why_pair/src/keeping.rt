@@ -1,12 +1,22 @@
 //! What is kept of a journal.
 
-ghost use Rattle.std.specs.Prelude.{◌≡◌, ◌<◌, ◌^◌, IfOk, All, length, map};
+ghost use Rattle.std.specs.Prelude.{◌≡◌, ◌<◌, ◌^◌, ◌++◌, ◌∷◌, [], IfOk, OnOk, All, length, map, if◌then◌else◌};
 ghost use Rattle.why_pair.specs.Kept.{kept_by};
 ghost use Rattle.why_pair.specs.Relinked.{places_from, step_number, HasPlaces};
 
 use chase_laws::Entry;
 use gk_base::NoMemory;
 use std::alloc::Global;
+
+/// Puts an entry at the end, where it has the mark.
+fn keep(kept: &mut Vec<Entry>, entry: &Entry, marked: bool) -> Result<(), NoMemory>
+    ensures { OnOk result (kept.new.items ≡ kept.old.items ++ (if marked then entry.now ∷ [] else [])) }
+{
+    if marked {
+        kept.push(*entry)?;
+    }
+    Ok(())
+}
 
 /// The entries that have the mark, in their order.
 pub(crate) fn kept(alloc: Global, journal: &[Entry], marks: &[bool]) -> Result<Vec<Entry>, NoMemory>
@@ -15,9 +25,7 @@ pub(crate) fn kept(alloc: Global, journal: &[Entry], marks: &[bool]) -> Result<V
 {
     let mut kept = Vec::new(alloc);
     for at in 0..journal.len() {
-        if marks[at] {
-            kept.push(journal[at])?;
-        }
+        keep(&mut kept, &journal[at], marks[at])?;
     }
     Ok(kept)
 }
