@@ -22,6 +22,7 @@ pub(crate) struct Worked {
 static IRIS: [&[u8]; 6] = [
     b"urn:al1", b"urn:al2", b"urn:al3", b"urn:al4", b"urn:ar1", b"urn:ar2",
 ];
+
 static VALUES: [&[u8]; 4] = [b"Anthology 2", b"1996", b"The Beatles", b"Help!"];
 
 /// Two albums by their name and year, then their artists, then two albums by these artists.

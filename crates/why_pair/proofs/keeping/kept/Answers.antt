@@ -1,4 +1,4 @@
-use Rattle.std.proofs.Common.{List, ◌∷◌, [], ◌++◌, ◌<◌, ◌+◌, ◌≡◌, false, if◌then◌else◌, get_or, length, drop, sym, ap, ◌∙◌, arith, append_assoc}
+use Rattle.std.proofs.Common.{◌∷◌, [], ◌++◌, ◌+◌, false, if◌then◌else◌, get_or, drop, sym, ap, ◌∙◌, arith, append_assoc}
 use Rattle.chase_laws.specs.declared.entry.Entry.{Entry}
 use Rattle.why_pair.specs.Kept.{kept_by}
 use Rattle.why_pair.proofs.KeptLemmas.{kept_more}
