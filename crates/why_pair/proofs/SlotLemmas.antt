@@ -1,4 +1,4 @@
--- Slots that a step has supports for.
+-- Slots that a step has supports for, partly as `proof_graph` has them for itself.
 use Rattle.std.proofs.Common.{List, [], ◌∷◌, ℕ, zero, suc, ◌+◌, Some, slice_get, ◌≡◌, ◌≢◌, refl, ap, ◌∙◌, arith}
 use Rattle.chase_laws.specs.declared.pattern.Slot.{Slot}
 use Rattle.chase_laws.specs.declared.pattern.Slot.TheVariants.{Entity, Any, Value, Folded, Fixed}

@@ -1,4 +1,5 @@
--- The way between two joined numbers: it leads there, along links that join, each once.
+-- The way between two joined numbers: it leads there, along links that join, each once. `proof_graph` proves the same for itself and
+-- gives no lemma on ways to other crates.
 use Rattle.std.proofs.Common.{List, [], ◌∷◌, ◌++◌, ℕ, zero, suc, ◌+◌, ◌<◌, ◌≤◌, Bool, true, false, ◌||◌, ◌&&◌, nat_eq, Option, Some, None, length, slice_get, take, ◌≡◌, ◌⊎◌, inl, inr, refl, sym, ap, subst, ◌∙◌, arith, true≢false, eq-eqb, eqb-true, if◌then◌else◌}
 use Rattle.std.proofs.lemmas.Bool.{and_parts, cases_Bool, cases_lt, cond-true, cond-false}
 use Rattle.chase_laws.specs.Joined.{joined}
