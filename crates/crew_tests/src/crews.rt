@@ -58,6 +58,25 @@ fn are_alike(labels: &[u32], others: &[u32]) -> bool {
     true
 }
 
+/// Whether a crew of so many workers, and a chase of the setup by as many, make the same names the same as these labels, and
+/// identify as often as the count says.
+fn find_the_same<R: Threads + Wait + Sync + Abort>(
+    rt: &R,
+    alloc: Global,
+    setup: &Setup,
+    workers: u32,
+    alone: &[u32],
+    count: usize,
+) -> Result<bool, Fail>
+    requires { (0 < workers) × (workers ≤ 64) }
+{
+    let crew = run(rt, alloc, setup, workers, &OpenGate)?;
+    let whole = chase_setup(rt, alloc, setup, workers, &OpenGate)?;
+    Ok(are_alike(&crew.labels, alone)
+        && are_alike(&whole.labels, alone)
+        && whole.journal.len() == count)
+}
+
 #[test]
 fn crews_find_what_one_thread_finds(rt: HostRuntime) -> Result<(), Fail> {
     let alloc = rt.alloc();
@@ -65,11 +84,15 @@ fn crews_find_what_one_thread_finds(rt: HostRuntime) -> Result<(), Fail> {
         let prepared = prepared(&rt, alloc, kind, count)?;
         let alone = drained(alloc, &prepared.setup)?;
         for workers in [1, 2, 64] {
-            let crews = run(&rt, alloc, &prepared.setup, workers, &OpenGate)?;
-            assert!(&rt; are_alike(&crews.labels, &alone.labels));
-            let whole = chase_setup(&rt, alloc, &prepared.setup, workers, &OpenGate)?;
-            assert!(&rt; are_alike(&whole.labels, &alone.labels));
-            assert_eq!(&rt; whole.journal.len(), count as usize);
+            let same = find_the_same(
+                &rt,
+                alloc,
+                &prepared.setup,
+                workers,
+                &alone.labels,
+                count as usize,
+            )?;
+            assert!(&rt; same);
         }
     }
     Ok(())
