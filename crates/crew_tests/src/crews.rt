@@ -72,9 +72,11 @@ fn find_the_same<R: Threads + Wait + Sync + Abort>(
 {
     let crew = run(rt, alloc, setup, workers, &OpenGate)?;
     let whole = chase_setup(rt, alloc, setup, workers, &OpenGate)?;
-    Ok(are_alike(&crew.labels, alone)
-        && are_alike(&whole.labels, alone)
-        && whole.journal.len() == count)
+    Ok(
+        are_alike(&crew.labels, alone)
+            && are_alike(&whole.labels, alone)
+            && whole.journal.len() == count,
+    )
 }
 
 #[test]
