@@ -123,11 +123,11 @@ fn lines<R: AllocGlobal + Threads + Wait + Sync, G: Gate>(
 ) -> Result<usize, Fail> {
     let graph = pairs_of_one_value(rt, pairs)?;
     let words = ["match", "--workers", workers, "g", "k"];
-    let mut lines = 0;
+    let mut lines: usize = 0;
     if let Some(text) = printed(rt, &words, &graph, ONE_VALUE, b"", gate)? {
         for byte in &text {
             if *byte == b'\n' {
-                lines += 1;
+                lines = lines.saturating_add(1);
             }
         }
     }
