@@ -1,0 +1,74 @@
+#!/usr/bin/env python3
+"""Times the stages of a match on 1, 2 and 4 processors with as many workers: the candidate pairs, the filter, the chase. On one
+processor the chase also by one thread that drains it, in the row of 0 workers.
+
+Usage: bench/stages.py [KIND SIZE ..]
+
+The kinds are those of bench/pairs.py. Times are seconds by the clock, each the least of three runs, which come in turn.
+`searches` are those of the chase by so many workers: what goes beyond the kept pairs was searched again, because it was woken or
+because a label had changed meanwhile. `times` is how often the time of one worker holds that of so many, in the chase and in the
+whole run. At the end stands the load of the machine.
+"""
+
+import os
+import pathlib
+import subprocess
+import sys
+import tempfile
+import time
+
+from building import build
+from pairs import KINDS
+from timing import PROGRAM, built
+
+NEEDS = ["match_run", "steal_pool", "chase_core", "pair_filter", "pair_seed", "graph_rows", "key_lang", "gk_io", "gk_base", "anyhow"]
+PROCESSORS = {0: "0", 1: "0", 2: "0,1", 4: "0-3"}  # by the number of workers
+PLAN = [("crowded", 10 ** 6), ("bibliography", 10 ** 6), ("missed", 10 ** 6), ("matched", 10 ** 6), ("woken", 10 ** 6),
+        ("chain", 10 ** 5)]
+COLUMNS = "{:>13} {:>9} {:>4} {:>9} {:>9} {:>9} {:>8} {:>8} {:>8} {:>8} {:>6} {:>6}"
+
+
+def stages(program, graph, keys, workers):
+    """Counts of pairs, kept pairs and searches, and the seconds of the candidates, the filter and the chase."""
+    command = ["taskset", "-c", PROCESSORS[workers], str(program), str(graph), str(keys), str(workers)]
+    words = [int(word) for word in subprocess.run(command, check=True, capture_output=True, text=True).stdout.split()]
+    pairs, kept, searches, seeded, filtered, ready, chased = words
+    return (pairs, kept, searches), (seeded / 1e6, (filtered - seeded) / 1e6, (chased - ready) / 1e6)
+
+
+def whole(graph, keys, workers):
+    """The seconds of a whole run of the program by the clock."""
+    command = ["taskset", "-c", PROCESSORS[workers], str(PROGRAM), "match", "--workers", str(max(workers, 1)), str(graph), str(keys)]
+    began = time.perf_counter()
+    subprocess.run(command, check=True, stdout=subprocess.DEVNULL)
+    return time.perf_counter() - began
+
+
+def measure(program, folder, kind, size):
+    make, key_text = KINDS[kind]
+    graph, keys = folder / "graph.nt", folder / "keys.gk"
+    keys.write_text(key_text)
+    with graph.open("w", encoding="utf-8") as out:
+        make(out, size)
+    runs = [{w: (*stages(program, graph, keys, w), whole(graph, keys, w)) for w in PROCESSORS} for _ in range(3)]
+    least = {w: [min(run[w][1][stage] for run in runs) for stage in range(3)] + [min(run[w][2] for run in runs)] for w in PROCESSORS}
+    for workers, seconds in least.items():
+        times = (least[1][stage] / max(seconds[stage], 1e-6) for stage in (2, 3))
+        print(COLUMNS.format(kind, size, workers, *runs[0][workers][0], *(f"{s:.3f}" for s in seconds), *(f"{t:.2f}" for t in times)), flush=True)
+
+
+def main():
+    words = sys.argv[1:]
+    built()
+    plan = [(kind, int(size)) for kind, size in zip(words[::2], words[1::2])] if words else PLAN
+    with tempfile.TemporaryDirectory() as name:
+        folder = pathlib.Path(name)
+        program = build(folder, "stage_times", NEEDS)
+        print(COLUMNS.format("graph", "size", "by", "pairs", "kept", "searches", "seed", "filter", "chase", "whole", "times", "times"))
+        for kind, size in plan:
+            measure(program, folder, kind, size)
+    print("load of the machine:", *(f"{load:.1f}" for load in os.getloadavg()), "with", os.cpu_count(), "processors")
+
+
+if __name__ == "__main__":
+    main()
