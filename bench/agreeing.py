@@ -1,0 +1,50 @@
+#!/usr/bin/env python3
+"""Runs `gkey match` many times with 1 to 64 workers on the examples and on made graphs, and says whether the bytes are ever other
+than those of one worker.
+
+Usage: bench/agreeing.py [RUNS]   (200, if no number is given)
+"""
+
+import pathlib
+import subprocess
+import sys
+import tempfile
+
+from pairs import KINDS
+from timing import PROGRAM, TOP, built
+
+WORKERS = (4, 4, 4, 2, 3, 8, 64)
+MADE = [("crowded", 10 ** 4), ("bibliography", 10 ** 4), ("missed", 10 ** 4), ("matched", 10 ** 4), ("woken", 10 ** 4), ("chain", 10 ** 3)]
+
+
+def report(graph, keys, workers):
+    command = [str(PROGRAM), "match", "--workers", str(workers), str(graph), str(keys)]
+    return subprocess.run(command, stdout=subprocess.PIPE, check=True).stdout
+
+
+def agree(name, graph, keys, runs):
+    alone = report(graph, keys, 1)
+    for run in range(runs):
+        workers = WORKERS[run % len(WORKERS)]
+        if report(graph, keys, workers) != alone:
+            sys.exit(f"{name}: other bytes with {workers} workers, at run {run}")
+    print(f"{name}: {runs} runs, {len(alone)} bytes", flush=True)
+
+
+def main():
+    runs = int(sys.argv[1]) if len(sys.argv) > 1 else 200
+    built()
+    for example in sorted((TOP / "examples").iterdir()):
+        agree(example.name, example / "graph.nt", example / "keys.gk", runs)
+    with tempfile.TemporaryDirectory() as name:
+        graph, keys = pathlib.Path(name, "graph.nt"), pathlib.Path(name, "keys.gk")
+        for kind, size in MADE:
+            make, key_text = KINDS[kind]
+            keys.write_text(key_text)
+            with graph.open("w", encoding="utf-8") as out:
+                make(out, size)
+            agree(kind, graph, keys, runs)
+
+
+if __name__ == "__main__":
+    main()
