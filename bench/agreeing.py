@@ -10,7 +10,7 @@ import subprocess
 import sys
 import tempfile
 
-from pairs import KINDS
+from pairs import written
 from timing import PROGRAM, TOP, built
 
 WORKERS = (4, 4, 4, 2, 3, 8, 64)
@@ -37,13 +37,8 @@ def main():
     for example in sorted((TOP / "examples").iterdir()):
         agree(example.name, example / "graph.nt", example / "keys.gk", runs)
     with tempfile.TemporaryDirectory() as name:
-        graph, keys = pathlib.Path(name, "graph.nt"), pathlib.Path(name, "keys.gk")
         for kind, size in MADE:
-            make, key_text = KINDS[kind]
-            keys.write_text(key_text)
-            with graph.open("w", encoding="utf-8") as out:
-                make(out, size)
-            agree(kind, graph, keys, runs)
+            agree(kind, *written(pathlib.Path(name), kind, size), runs)
 
 
 if __name__ == "__main__":

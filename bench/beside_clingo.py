@@ -15,7 +15,7 @@ import tempfile
 import threading
 
 import plain
-from pairs import KINDS
+from pairs import written
 from timing import PROGRAM, built, timed
 
 MOST_SECONDS = 600
@@ -98,14 +98,11 @@ def run_clingo(program, answer):
 
 
 def measure(folder, kind, size):
-    make, key_text = KINDS[kind]
-    graph, keys, program = folder / "graph.nt", folder / "keys.gk", folder / "program.lp"
-    keys.write_text(key_text)
-    with graph.open("w", encoding="utf-8") as out:
-        make(out, size)
+    graph, keys = written(folder, kind, size)
+    program = folder / "program.lp"
     numbers = Numbers()
     with graph.open(encoding="utf-8") as lines:
-        write_program(program, plain.read_graph(lines), plain.read_keys(key_text), numbers)
+        write_program(program, plain.read_graph(lines), plain.read_keys(keys.read_text()), numbers)
     command = [str(PROGRAM), "match", str(graph), str(keys)]
     report = subprocess.run(command, stdout=subprocess.PIPE, check=True).stdout.decode()
     own = timed(command)

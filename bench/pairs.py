@@ -27,12 +27,18 @@ PLAN = [("crowded", 10 ** 5), ("crowded", 4 * 10 ** 5), ("crowded", 10 ** 6), ("
         ("bibliography", 10 ** 6), ("missed", 10 ** 6), ("matched", 10 ** 6), ("woken", 10 ** 6), ("chain", 10 ** 5)]
 
 
-def measure(folder, kind, size, programs):
+def written(folder, kind, size):
+    """The graph of a kind and its key file, written to the folder."""
     make, key_text = KINDS[kind]
     graph, keys = folder / "graph.nt", folder / "keys.gk"
     keys.write_text(key_text)
     with graph.open("w", encoding="utf-8") as out:
         make(out, size)
+    return graph, keys
+
+
+def measure(folder, kind, size, programs):
+    graph, keys = written(folder, kind, size)
     commands = [[str(program), "match", str(graph), str(keys)] for program in programs]
     if len({subprocess.run(command, stdout=subprocess.PIPE, check=True).stdout for command in commands}) > 1:
         sys.exit(f"{kind} {size}: the two programs print other classes")

@@ -18,7 +18,7 @@ import tempfile
 import time
 
 from building import build
-from pairs import KINDS
+from pairs import written
 from timing import PROGRAM, built
 
 NEEDS = ["match_run", "steal_pool", "chase_core", "pair_filter", "pair_seed", "graph_rows", "key_lang", "gk_io", "gk_base", "anyhow"]
@@ -45,11 +45,7 @@ def whole(graph, keys, workers):
 
 
 def measure(program, folder, kind, size):
-    make, key_text = KINDS[kind]
-    graph, keys = folder / "graph.nt", folder / "keys.gk"
-    keys.write_text(key_text)
-    with graph.open("w", encoding="utf-8") as out:
-        make(out, size)
+    graph, keys = written(folder, kind, size)
     runs = [{w: (*stages(program, graph, keys, w), whole(graph, keys, w)) for w in PROCESSORS} for _ in range(3)]
     least = {w: [min(run[w][1][stage] for run in runs) for stage in range(3)] + [min(run[w][2] for run in runs)] for w in PROCESSORS}
     for workers, seconds in least.items():

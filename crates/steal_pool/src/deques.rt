@@ -8,7 +8,7 @@ use crate::workspace::StealPass;
 use gk_base::NoMemory;
 use std::alloc::Global;
 
-// How many hints a deque has room for at first, and how many it is dealt at most.
+/// How many hints a deque has room for at first, and how many it is dealt at most.
 pub const DEALT: u32 = 256;
 
 /// An empty deque for each worker.
