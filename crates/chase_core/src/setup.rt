@@ -153,6 +153,14 @@ impl Setup {
         self.widest
     }
 
+    /// The keys' patterns, for a setup over another graph. It gives up all else, and takes no memory.
+    pub fn into_patterns(self) -> Vec<Pattern>
+        ensures { result.items ≡ self.task.patterns }
+    {
+        let Setup { patterns, .. } = self;
+        patterns
+    }
+
     /// Says for proofs what holds of every setup. It does nothing.
     pub(crate) fn prepared(&self)
         ensures task { IsTask self.now.task }
