@@ -1,6 +1,7 @@
 -- what callers of this crate read
 pub mod Held
 pub mod Plans
+pub mod Both
 -- inner invariants and words of the proofs
 pub mod Kept
 pub mod Part

@@ -5,6 +5,7 @@
 //!
 //! - `sameness`: what is known to be the same
 //! - `view`: names with their labels
+//! - `both`: two ascending lists of names, walked at once
 //! - `planning`: the plans of all keys
 //! - `fits`: what one more name has to be
 //! - `choices`: which names may come next
@@ -13,6 +14,7 @@
 #![tactic(auto)]
 
 mod all_keys;
+mod both;
 mod choices;
 mod extend;
 mod fits;
@@ -21,6 +23,7 @@ mod sameness;
 mod view;
 
 pub use all_keys::{Finding, search};
+pub use both::{least_from, past};
 pub use planning::plan_all;
 pub use sameness::Sameness;
 pub use view::View;
