@@ -1,0 +1,4 @@
+mod Entered
+mod Keeps
+mod ReadView
+mod Writing

@@ -1,0 +1,25 @@
+//! A board of labels: one thread posts the entries of a book as they come, and others read labels without a turn of any
+//! lock. A label that is read is joined with its name by the entries that were posted, from whatever moment it is. No call
+//! waits, and only `Board::new` takes memory.
+//!
+//! - `knowledge`: what a seat at the board's table knows, and the rule of the table
+//! - `plays`: what each kind of step on the table tells
+//! - `steps`: the steps
+//! - `handles`: the board, its scribe and its watchers
+//! - `open`: a board made over a book
+//! - `post`: one entry more is posted
+//! - `fill`: a view is filled from the board
+//! - `meet`: what was read is joined under what was posted
+#![tactic(auto)]
+
+mod fill;
+mod handles;
+mod knowledge;
+mod meet;
+mod open;
+mod plays;
+mod post;
+mod steps;
+
+pub use handles::{Board, Scribe, Watcher};
+pub use meet::law_met;
