@@ -10,7 +10,7 @@ use Rattle.proof_graph.specs.Tells.{is_earlier, places_of}
 use Rattle.why_pair.specs.Kept.{place_kept}
 use Rattle.why_pair.specs.Marking.{IsMarkedAt}
 use Rattle.why_pair.specs.Relinked.{places_from, step_number}
-use Rattle.why_pair.proofs.WayLemmas.{Once}
+use Rattle.proof_graph.proofs.CallerLemmas.{Once}
 use Rattle.why_pair.proofs.KeptLemmas.{place_less}
 
 link_joined : (ps : List (ℕ × ℕ)) (n : ℕ) (link : ℕ × ℕ) → slice_get ps n ≡ Some link → joined ps link.0 link.1 ≡ true

@@ -1,4 +1,3 @@
-mod WayLemmas
 mod SlotLemmas
 mod KeptLemmas
 mod NeedLemmas

@@ -13,8 +13,7 @@ use Rattle.proof_graph.specs.Way.{way}
 use Rattle.proof_graph.specs.Tells.{supported_slots, AreSupported}
 use Rattle.proof_graph.specs.Built.{pattern_at, IsJoinedAt}
 use Rattle.why_pair.specs.Needed.{way_at, needs_of}
-use Rattle.why_pair.proofs.WayLemmas.{fronts, way-stable, on_way}
-use Rattle.why_pair.proofs.SlotLemmas.{supported_at}
+use Rattle.proof_graph.proofs.CallerLemmas.{fronts, on_way, supported_at, way-stable}
 
 -- ---- lists of lists
 

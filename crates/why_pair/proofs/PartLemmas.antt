@@ -17,7 +17,7 @@ use Rattle.proof_graph.specs.Built.{pattern_at}
 use Rattle.why_pair.specs.Kept.{kept_by, place_kept}
 use Rattle.why_pair.specs.Needed.{way_at}
 use Rattle.why_pair.specs.Marking.{IsMarkedAt, MarksFrom}
-use Rattle.why_pair.proofs.WayLemmas.{fronts, way-end_along}
+use Rattle.proof_graph.proofs.CallerLemmas.{fronts, way-end_along}
 use Rattle.why_pair.proofs.SlotLemmas.{supported_has}
 use Rattle.why_pair.proofs.KeptLemmas.{at_kept, kept_at, place_less}
 use Rattle.why_pair.proofs.NeedLemmas.{flat_in, all_links, pattern_is, slot_of, way_below}

@@ -16,13 +16,12 @@ use Rattle.proof_graph.specs.Way.{way}
 use Rattle.proof_graph.specs.Steps.{SupportShape, StepShape, term_at, step_ends}
 use Rattle.proof_graph.specs.Tells.{supported_slots, AreSupported, are_earlier, places_of, leads_there, Tells, TellsAll}
 use Rattle.proof_graph.specs.Built.{pattern_at}
-use Rattle.proof_graph.proofs.CallerLemmas.{leads_same}
+use Rattle.proof_graph.proofs.CallerLemmas.{fronts, leads_same, way-once}
 use Rattle.why_pair.specs.Kept.{kept_by, place_kept}
 use Rattle.why_pair.specs.Needed.{way_at, IsNeeded, in_goal, by_entry}
 use Rattle.why_pair.specs.Marking.{IsMarkedAt, MarksFrom}
 use Rattle.why_pair.specs.Relinked.{places_from, step_number, IsLinked, relinked, relinked_step, with_each}
 use Rattle.why_pair.specs.Why.{StepsLead, NoneTwice, NoneTwiceInSupports, IsStepReached, of_goal, of_step, AllReached, TellsPart}
-use Rattle.why_pair.proofs.WayLemmas.{fronts, way-once}
 use Rattle.why_pair.proofs.KeptLemmas.{at_kept, kept_at}
 use Rattle.why_pair.proofs.NeedLemmas.{in_flat, links-take, all_links, pattern_is, slot_of}
 use Rattle.why_pair.proofs.LinkLemmas.{made_at, make_at, length-with_each}
