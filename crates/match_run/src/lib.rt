@@ -1,6 +1,7 @@
 //! A whole chase: from a graph and keys to the classes of equal names, and to why names are the same. `prepare` finds the
-//! candidate pairs and makes what a chase works on, `chase` runs a crew's chase to its end, `chase_setup` makes the crew
-//! too, and `classes` does all of it. What the classes are is said in `specs/`, by the chase's definitions alone.
+//! candidate pairs and makes what a chase works on, `chase` runs a crew's chase to its end, `chase_on` makes the crew too,
+//! `chase_setup` also the chase, and `classes` does all of it. What the classes are is said in `specs/`, by the chase's
+//! definitions alone.
 //!
 //! - `preparing`: what a chase needs before it runs
 //! - `together`: a chase by a crew
@@ -12,5 +13,5 @@ mod together;
 mod whole;
 
 pub use preparing::{Prepared, prepare};
-pub use together::{chase, chase_setup};
+pub use together::{chase, chase_on, chase_setup};
 pub use whole::classes;

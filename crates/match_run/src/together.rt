@@ -35,10 +35,30 @@ pub fn chase<G: Gate, R: Threads + Wait + Sync>(
     running.finish()
 }
 
-/// Runs a new chase over a setup to its end, with a crew of as many workers as there is memory for: at most so many, 1
-/// to 64, and no more than there are pairs, but at least one. The labels are equal exactly where two names are the same,
-/// and the journal is a lean derivation that no step goes beyond, over the pairs of the setup. Each worker passes the
-/// gate before each search. Only want of memory stops it, before any search.
+/// Runs a chase to its end, with a crew of as many workers as there is memory for: at most so many, 1 to 64, and no more
+/// than there are pairs, but at least one. The labels are equal exactly where two names are the same, and the journal is a
+/// lean derivation that no step goes beyond, over the pairs of the setup; it begins with that of the chase. Each worker
+/// passes the gate before each search. Only want of memory stops it, before any search.
+pub fn chase_on<R: Threads + Wait + Sync, G: Gate>(
+    rt: &R,
+    alloc: Global,
+    made: Chase<'_>,
+    workers: u32,
+    gate: &G,
+) -> Result<Matched, NoMemory>
+    requires workers { (0 < workers) × (workers ≤ 64) }
+    ensures classes { IfOk result (λ m. AreClasses made.entry.setup.task.graph made.entry.setup.task.patterns m.labels.items) }
+    ensures journal { IfOk result (λ m. IsFinishedJournal made.entry.setup.task.graph made.entry.setup.task.patterns m.journal.items) }
+    ensures ends { IfOk result (λ m. All (λ e. Contains made.entry.setup.task.pairs (e.a, e.b)) m.journal.items) }
+    ensures begins { IfOk result (λ m. (more : List Entry) × (m.journal.items ≡ made.entry.book.journal ++ more)) }
+{
+    let pairs = made.setup().pairs().len() as u32;
+    let mut woken = Woken::new(alloc, 0)?;
+    let crew = muster(alloc, made, workers.min(pairs.max(1)))?;
+    Ok(chase(rt, crew, &mut woken, gate))
+}
+
+/// Runs a new chase over a setup to its end, as `chase_on` does one that has begun.
 pub fn chase_setup<R: Threads + Wait + Sync, G: Gate>(
     rt: &R,
     alloc: Global,
@@ -51,9 +71,6 @@ pub fn chase_setup<R: Threads + Wait + Sync, G: Gate>(
     ensures journal { IfOk result (λ m. IsFinishedJournal setup.now.task.graph setup.now.task.patterns m.journal.items) }
     ensures ends { IfOk result (λ m. All (λ e. Contains setup.now.task.pairs (e.a, e.b)) m.journal.items) }
 {
-    let pairs = setup.pairs().len() as u32;
-    let mut woken = Woken::new(alloc, 0)?;
     let made = Chase::new(alloc, setup)?;
-    let crew = muster(alloc, made, workers.min(pairs.max(1)))?;
-    Ok(chase(rt, crew, &mut woken, gate))
+    chase_on(rt, alloc, made, workers, gate)
 }
