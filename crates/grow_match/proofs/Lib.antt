@@ -1,0 +1,3 @@
+mod PairSearch
+mod EnteredAgain
+mod OldEntries
