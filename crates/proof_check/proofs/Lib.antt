@@ -4,6 +4,7 @@ mod ToNumbers
 mod Accepted
 mod FromNumbers
 mod RowLemmas
+mod FewLemmas
 mod SameReason
 mod StepLemmas
 mod LookupLemmas

@@ -47,7 +47,7 @@ module _ (keys : List KeyShape) (terms : List Term) (look : Lookup) (patterns : 
       ap₂ (λ t ts. t ∷ ts) one (steps_same steps (λ i d l. h (suc i) d (omega arith)))
 
 module _ (triples : List Triple) (keys : List KeyShape) (terms : List Term) (look : Lookup) (patterns : List Shape) (R : IsPrepared keys terms look patterns)
-    (L : IsLookup triples look.names look.rows.items look.known.items look.kind) (file : IsKeyFile keys) where
+    (L : IsLookup triples look.names look.rows look.known.items look.kind) (file : IsKeyFile keys) where
   abbrev names : List Term
   names = look.names
 
@@ -61,7 +61,7 @@ module _ (triples : List Triple) (keys : List KeyShape) (terms : List Term) (loo
       reason_by look ends step (option_map (shape_of names) o) ≡ reason_at triples (map (both_terms names) ends) (step_with names step) o
   by_key ends inside step is k None at = refl
   by_key ends inside step is k (Some key) at =
-      reason_same triples names look.rows.items look.known.items look.kind L key (has_names k key at) (ends_inside key (key_is k key at)) ends inside step is.0 is.1
+      reason_same triples names look.rows look.known.items look.kind L key (has_names k key at) (ends_inside key (key_is k key at)) ends inside step is.0 is.1
 
   pub reason_is : (ends : List (ℕ × ℕ)) → AreNumberedLinks (length names) ends → (step : StepNumbers) → IsNumberedBelow (length names) step →
       reason_with look patterns keys ends step ≡ reason_of triples keys (map (both_terms names) ends) (step_with names step)

@@ -1,8 +1,5 @@
 -- What the checker has made before it looks at the steps (this project's own).
 use Rattle.std.specs.Prelude.{List, [], ◌∷◌, ◌++◌, ℕ, ◌+◌, ◌<◌, true, slice_index, Option, Some, None, length, slice_get, ◌≡◌}
-use Rattle.std.specs.Ordering.{nat_cmp}
-use Rattle.std.specs.Cmp.Lexicographic.{slice_cmp}
-use Rattle.std.specs.List.Sorted.{IsSorted}
 use Rattle.gk_base.specs.declared.term.Term.{Term}
 use Rattle.chase_laws.specs.Shape.{Shape}
 use Rattle.term_table.specs.Numbering.{is_named}
@@ -34,7 +31,6 @@ pub record AreKeyNames (names : List Term) (keys : List KeyShape) : Type 0 where
 
 -- The patterns are those of the keys, and the numbers are places of names that begin with a proof's terms.
 pub record IsPrepared (keys : List KeyShape) (terms : List Term) (look : Lookup) (patterns : List Shape) : Type 0 where
-  pub ascending : IsSorted (slice_cmp nat_cmp) look.rows.items
   pub count : length look.known.items ≡ length look.names
   pub compiled : patterns ≡ patterns_of look.names keys
   pub named : AreKeyNames look.names keys
@@ -44,7 +40,7 @@ pub record IsPrepared (keys : List KeyShape) (terms : List Term) (look : Lookup)
 -- the least reason against a step whose key has this pattern, or is unknown
 abbrev pub reason_by : Lookup → List (ℕ × ℕ) → StepNumbers → Option Shape → Option Reason
 reason_by look ends step None = Some UnknownKey
-reason_by look ends step (Some pattern) = number_reason look.rows.items look.known.items look.names look.kind ends step pattern
+reason_by look ends step (Some pattern) = number_reason look.rows look.known.items look.names look.kind ends step pattern
 
 -- the least reason against a step, whose key is found by its name
 abbrev pub reason_with : Lookup → List Shape → List KeyShape → List (ℕ × ℕ) → StepNumbers → Option Reason

@@ -62,3 +62,8 @@ pub record HasPlaces (Q : Shape) (step : StepNumbers) : Type 0 where
 -- supports name earlier steps, of which there are so many
 abbrev pub AreEarlier : ℕ → StepNumbers → Type 0
 AreEarlier count step = All (λ s. All (λ n. (1 ≤ n) × (n ≤ count)) s.steps) step.supports
+
+-- the rows before a place have first numbers below this one
+pub record HasLowerBefore (rows : List (List ℕ)) (place s : ℕ) : Type 0 where
+  pub within : place ≤ length rows
+  pub lower : (k : ℕ) → k < place → slice_index (slice_index_or rows k []) 0 < s

@@ -1,9 +1,6 @@
 //! The checker.
 
 ghost use Rattle.std.specs.Prelude.{◌≡◌, ◌<◌, ◌-◌, ◌^◌, [], List, IfOk, All, length, slice_index};
-ghost use Rattle.std.specs.Ordering.{nat_cmp};
-ghost use Rattle.std.specs.Cmp.Lexicographic.{slice_cmp};
-ghost use Rattle.std.specs.List.Sorted.{IsSorted};
 ghost use Rattle.gk_base.specs.declared.term.Triple.{Triple};
 ghost use Rattle.key_file.specs.Numbered.{rdf_type};
 ghost use Rattle.term_table.specs.Numbering.{AreDistinct, names_of};
@@ -23,7 +20,7 @@ use gk_base::{NoMemory, Term, Text};
 use key_file::{KeyDef, KeyFile, compile};
 use proof_graph::{Proof, ProofStep};
 use std::alloc::Global;
-use term_list::Triples;
+use term_list::{TermRef, Terms, Triples};
 use term_table::Names;
 
 /// How many terms a proof may have: names are numbered by four bytes, and rdf:type and the terms of 64 keys, of which each
@@ -42,10 +39,13 @@ fn numbers(alloc: Global, terms: &[Term]) -> Result<Names, NoMemory>
     requires { length terms.now < 2 ^ 32 - 1 }
     ensures { IfOk result (λ names. names ≡ names_of terms.now) }
 {
-    let mut names = Names::new(alloc);
+    let mut packed = Terms::new(alloc);
     for term in terms {
-        names.intern(term.copy()?)?;
+        packed.push(&TermRef::of(term))?;
     }
+    let mut names = Names::new(alloc);
+    names.expect(terms.len() as u32);
+    names.intern_all(&packed)?;
     Ok(names)
 }
 
@@ -79,7 +79,7 @@ fn prepare(
     requires { AreDistinct terms.now }
     ensures prepared { IfOk result (λ r. IsPrepared keys.now terms.now r.look r.patterns.items) }
     ensures lookup { IfOk result (λ r. (triples : List Triple) → IsGraphInNumbers names.now rows.now triples →
-        IsLookup triples r.look.names r.look.rows.items r.look.known.items r.look.kind) }
+        IsLookup triples r.look.names r.look.rows r.look.known.items r.look.kind) }
 {
     if terms.len() >= MOST_TERMS {
         return Err(NoMemory);
@@ -101,7 +101,6 @@ fn judge(
     ends: &[(u32, u32)],
 ) -> Result<Option<Reason>, NoMemory>
     requires patterns { length ready.now.patterns.items ≡ length keys.now }
-    requires ascending { IsSorted (slice_cmp nat_cmp) ready.now.look.rows.items }
     requires count { length ready.now.look.known.items ≡ length ready.now.look.names }
     requires inside { IsNumberedBelow (length ready.now.look.names) step.now }
     ensures { IfOk result (λ reason. reason ≡ reason_with ready.now.look ready.now.patterns.items keys.now ends.now step.now) }
@@ -128,7 +127,6 @@ fn judge_all(
     steps: &[ProofStep],
 ) -> Result<Verdict, NoMemory>
     requires patterns { length ready.now.patterns.items ≡ length keys.now }
-    requires ascending { IsSorted (slice_cmp nat_cmp) ready.now.look.rows.items }
     requires count { length ready.now.look.known.items ≡ length ready.now.look.names }
     requires inside { All (IsNumberedBelow (length ready.now.look.names)) steps.now }
     requires few { length steps.now < 2 ^ 32 }

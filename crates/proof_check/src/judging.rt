@@ -1,9 +1,6 @@
 //! The least reason against a step.
 
 ghost use Rattle.std.specs.Prelude.{◌≡◌, ◌<◌, IfOk, All, true, length};
-ghost use Rattle.std.specs.Ordering.{nat_cmp};
-ghost use Rattle.std.specs.Cmp.Lexicographic.{slice_cmp};
-ghost use Rattle.std.specs.List.Sorted.{IsSorted};
 ghost use Rattle.std.specs.List.{list_all};
 ghost use Rattle.proof_graph.specs.Tells.{are_earlier};
 ghost use Rattle.proof_check.specs.NumberVerdict.{numbers_have_shape, number_reason};
@@ -55,11 +52,10 @@ pub(crate) fn least_reason(
     step: &ProofStep,
     ends: &[(u32, u32)],
 ) -> Result<Option<Reason>, NoMemory>
-    requires ascending { IsSorted (slice_cmp nat_cmp) look.now.rows.items }
     requires count { length look.now.known.items ≡ length look.now.names }
     requires left { All (λ n. n < length look.now.names) step.now.left }
     requires right { All (λ n. n < length look.now.names) step.now.right }
-    ensures { IfOk result (λ reason. reason ≡ number_reason look.now.rows.items look.now.known.items look.now.names look.now.kind ends.now step.now pattern.now) }
+    ensures { IfOk result (λ reason. reason ≡ number_reason look.now.rows look.now.known.items look.now.names look.now.kind ends.now step.now pattern.now) }
 {
     let (slots, edges) = (pattern.slots.as_slice(), pattern.edges.as_slice());
     let (left, right) = (step.left.as_slice(), step.right.as_slice());

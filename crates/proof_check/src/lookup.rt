@@ -2,9 +2,6 @@
 
 ghost use Rattle.std.specs.Prelude.{◌≡◌, ◌<◌, ◌++◌, List, ℕ, All, IfOk, IfSome, OnOk, true, false, length, slice_index_or, fold, option_to_list};
 ghost use Rattle.std.specs.List.{filter_map};
-ghost use Rattle.std.specs.Ordering.{nat_cmp};
-ghost use Rattle.std.specs.Cmp.Lexicographic.{slice_cmp};
-ghost use Rattle.std.specs.List.Sorted.{IsSorted};
 ghost use Rattle.gk_base.specs.declared.term.Triple.{Triple};
 ghost use Rattle.key_file.specs.Numbered.{rdf_type};
 ghost use Rattle.term_table.specs.Numbering.{AreDistinct, is_named, place_of};
@@ -12,7 +9,7 @@ ghost use Rattle.proof_check.specs.NumberVerdict.{IsLookup};
 ghost use Rattle.proof_check.specs.Rows.{number_at, row_of_numbers, row_by, with_mark, with_ends, IsGraphInNumbers};
 
 use crate::numbers::numbers_among;
-use crate::rows::sorted;
+use crate::rows::SortedRows;
 use gk_base::NoMemory;
 use std::alloc::Global;
 use term_table::Names;
@@ -102,7 +99,7 @@ fn unset(alloc: Global, count: usize) -> Result<Vec<bool>, NoMemory>
 #[derive(Drop)]
 pub(crate) struct Lookup {
     pub(crate) names: Names,
-    pub(crate) rows: Vec<[u32; 3]>,
+    pub(crate) rows: SortedRows,
     pub(crate) known: Vec<bool>,
     pub(crate) kind: u32,
 }
@@ -120,17 +117,17 @@ impl Lookup {
         requires kind { place_of names rdf_type ≡ kind }
         ensures names { IfOk result (λ l. l.names ≡ names) }
         ensures lookup { IfOk result (λ l. (triples : List Triple) → IsGraphInNumbers graph_names.now graph_rows.now triples →
-            IsLookup triples names l.rows.items l.known.items l.kind) }
-        ensures ascending { IfOk result (λ l. IsSorted (slice_cmp nat_cmp) l.rows.items) }
+            IsLookup triples names l.rows l.known.items l.kind) }
         ensures count { IfOk result (λ l. length l.known.items ≡ length names) }
     {
         let numbers = numbers_among(alloc, graph_names, &names)?;
         let mut rows = Vec::with_capacity(alloc, graph_rows.len())?;
         let mut known = unset(alloc, names.len() as usize)?;
         look_at_all(&numbers, graph_rows, &mut rows, &mut known)?;
+        let rows = SortedRows::new(alloc, rows, known.len())?;
         Ok(Lookup {
             names,
-            rows: sorted(rows),
+            rows,
             known,
             kind,
         })

@@ -1,22 +1,18 @@
 //! The tests of one side of a step, over numbers of terms.
 
 ghost use Rattle.std.specs.Prelude.{◌≡◌, ◌<◌, All, nat_eq, length};
-ghost use Rattle.std.specs.Ordering.{nat_cmp};
-ghost use Rattle.std.specs.Cmp.Lexicographic.{slice_cmp};
-ghost use Rattle.std.specs.List.Sorted.{IsSorted};
 ghost use Rattle.key_file.specs.Key.{all_differ};
 ghost use Rattle.proof_check.specs.NumberVerdict.{has_row, numbers_are_known, number_has_kind, numbers_have_kinds, numbers_have_images, number_is_constant, numbers_are_constants};
 
-use crate::rows::has_row;
+use crate::rows::SortedRows;
 use chase_laws::{Edge, Slot};
 use term_table::Names;
 
 /// Whether there is the row of these three numbers.
-fn holds(rows: &[[u32; 3]], s: u32, p: u32, o: u32) -> bool
-    requires { IsSorted (slice_cmp nat_cmp) rows.now }
+fn holds(rows: &SortedRows, s: u32, p: u32, o: u32) -> bool
     ensures { result ≡ has_row rows.now s p o }
 {
-    has_row(rows, [s, p, o])
+    rows.has(s, p, o)
 }
 
 /// Whether each number is that of a term that is subject or object of a triple.
@@ -40,9 +36,8 @@ pub(crate) fn are_different(side: &[u32]) -> bool
 }
 
 /// Whether a number has the kind and the type of a slot.
-fn has_kind(rows: &[[u32; 3]], names: &Names, kind: u32, slot: Slot, n: u32) -> bool
-    requires ascending { IsSorted (slice_cmp nat_cmp) rows.now }
-    requires named { n < length names.now }
+fn has_kind(rows: &SortedRows, names: &Names, kind: u32, slot: Slot, n: u32) -> bool
+    requires { n < length names.now }
     ensures { result ≡ number_has_kind rows.now names.now kind slot n }
 {
     let is_literal = names.term(n).is_literal();
@@ -55,13 +50,12 @@ fn has_kind(rows: &[[u32; 3]], names: &Names, kind: u32, slot: Slot, n: u32) -> 
 
 /// Whether each number has the kind and the type of its slot. `kind` is the number of rdf:type.
 pub(crate) fn have_kinds(
-    rows: &[[u32; 3]],
+    rows: &SortedRows,
     names: &Names,
     kind: u32,
     slots: &[Slot],
     side: &[u32],
 ) -> bool
-    requires ascending { IsSorted (slice_cmp nat_cmp) rows.now }
     requires named { All (λ n. n < length names.now) side.now }
     requires count { length side.now ≡ length slots.now }
     ensures { result ≡ numbers_have_kinds rows.now names.now kind slots.now side.now }
@@ -75,9 +69,8 @@ pub(crate) fn have_kinds(
 }
 
 /// Whether the image of each edge is a row.
-pub(crate) fn have_images(rows: &[[u32; 3]], edges: &[Edge], side: &[u32]) -> bool
-    requires ascending { IsSorted (slice_cmp nat_cmp) rows.now }
-    requires ends { All (λ e. (e.from < length side.now) × (e.to < length side.now)) edges.now }
+pub(crate) fn have_images(rows: &SortedRows, edges: &[Edge], side: &[u32]) -> bool
+    requires { All (λ e. (e.from < length side.now) × (e.to < length side.now)) edges.now }
     ensures { result ≡ numbers_have_images rows.now edges.now side.now }
 {
     edges.iter().all(|edge| holds(

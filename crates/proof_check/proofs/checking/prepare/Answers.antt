@@ -37,7 +37,6 @@ returns-clause-prepared c =
     let begins = begins_with c.args.terms.now c.in_ok-numbered.numbered c.intern.new.self c.compile.new.names c.requires c.in_ok-numbered.ensures first c.in_ok-patterns.ensures.grown in
     let keys : AreKeyNames c.compile.new.names c.args.keys.now = subst (λ l. AreKeyNames l c.args.keys.now) (sym c.in_ok-patterns.ensures.names) (key_names c.intern.new.self c.args.keys.now) in
     record {
-      ascending = c.in_ok-look.ensures.ascending;
       count = c.in_ok-look.ensures.count ∙ ap length (sym names);
       compiled = c.in_ok-patterns.ensures.patterns ∙ ap (λ l. patterns_of l c.args.keys.now) (sym names);
       named = subst (λ l. AreKeyNames l c.args.keys.now) (sym names) keys;
@@ -47,4 +46,4 @@ returns-clause-prepared c =
 
 pub returns-clause-lookup : goal.returns-clause-lookup
 returns-clause-lookup c = λ triples g.
-    subst (λ l. IsLookup triples l c.in_ok-look.look.rows.items c.in_ok-look.look.known.items c.in_ok-look.look.kind) (sym c.in_ok-look.ensures.names) (c.in_ok-look.ensures.lookup triples g)
+    subst (λ l. IsLookup triples l c.in_ok-look.look.rows c.in_ok-look.look.known.items c.in_ok-look.look.kind) (sym c.in_ok-look.ensures.names) (c.in_ok-look.ensures.lookup triples g)

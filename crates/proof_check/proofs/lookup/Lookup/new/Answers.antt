@@ -26,7 +26,7 @@ returns-clause-lookup c = λ triples g.
     record {
       distinct = distinct;
       has = λ s p o hs hp ho.
-          row_order c.look_at_all.new.rows.items c.sorted.result.items c.sorted.ensures.same s p o
+          row_order c.look_at_all.new.rows.items c.in_ok-rows-2.rows c.in_ok-rows-2.ensures s p o
           ∙ ap (λ l. has_row l s p o) (rows_looked names graph triples c.deref.result.now rows c.in_ok-rows.rows.items c.look_at_all.new.rows.items numbers g c.in_ok-rows.ensures.items c.in_ok-look_at_all.ensures.rows)
           ∙ rows_same names distinct triples s p o hs hp ho;
       knows = λ n h.
