@@ -1,5 +1,5 @@
 -- What was read so far of a graph, and what its reader then has.
-use Rattle.std.proofs.Common.{List, [], ◌++◌, ℕ, ◌+◌, ◌-◌, ◌*◌, ◌^◌, ◌<◌, ◌≤◌, Option, Some, None, IfSome, IsSomeAnd, true, Result, Ok, Err, IsOk, is_ok, IsErrAnd, MatchResult, length, take, ◌≡◌, ◌∙◌, refl, sym, ap, ap₂, subst, arith, append_assoc, length-append}
+use Rattle.std.proofs.Common.{List, [], ◌++◌, ℕ, ◌+◌, ◌-◌, ◌*◌, ◌^◌, ◌<◌, ◌≤◌, Option, Some, None, IfSome, IsSomeAnd, true, Result, Ok, Err, IsOk, is_ok, IsErrAnd, MatchResult, length, take, ◌≡◌, ◌∙◌, refl, sym, ap, ap₂, subst, arith, append-nil, append_assoc, length-append}
 use Rattle.std.proofs.lemmas.List.{take-append-drop, take-append-le, nil_from_length}
 use Rattle.gk_base.specs.declared.limits.Limits.{Limits}
 use Rattle.gk_base.specs.declared.read_fault.ReadRefusal.{ReadRefusal}
@@ -17,9 +17,9 @@ use Rattle.nt_reader.specs.File.{FileSays, Refuses, IsOpen}
 use Rattle.nt_reader.specs.Reading.{Front, Reading}
 use Rattle.nt_reader.specs.Kept.{IsStopped, HasCome, HasRead, FinishSays}
 use Rattle.nt_reader.proofs.CallerLemmas.{open_front}
-use Rattle.graph_rows.specs.Rows.{StandFor}
+use Rattle.graph_rows.specs.Rows.{StandFor, GoOn, LeaveRoom}
 use Rattle.graph_rows.specs.GraphFile.{StopsSoon, GraphStops, StopsAtGraph, GivesRows}
-use Rattle.graph_rows.specs.Feeding.{WereRead, Feeds, FeedsNext, FeedsAll}
+use Rattle.graph_rows.specs.Feeding.{WereRead, Feeds, FeedsNext, FeedsAll, ReadsBehind}
 use Rattle.graph_rows.specs.declared.rows.Rows.{Rows}
 use Rattle.graph_rows.proofs.NumberedRows.{names_few}
 use Rattle.graph_rows.proofs.Told.{told_more}
@@ -185,13 +185,22 @@ fed_taken shelf old now limits before after Kept Later taken triples seen h same
   not_refused = h.not_refused;
 }
 
+-- rows that go on with nothing, and rows that go on twice
+pub go_on_none : (rows : Rows) → GoOn rows rows []
+go_on_none rows = λ before stand. subst (StandFor rows) (sym (append-nil before)) stand
+
+pub go_on_twice : (old mid new : Rows) (taken more : List Triple) → GoOn old mid taken → GoOn mid new more → GoOn old new (taken ++ more)
+go_on_twice old mid new taken more go on = λ before stand. subst (StandFor new) (append_assoc before taken more) (on (before ++ taken) (go before stand))
+
 -- the names with those of the triples that were taken are few
-pub taken_few : (reader : Reading) (rows : Rows) (taken triples : List Triple) (seen : List ℕ) → IsOk reader.so_far → reader.limits.triples ≤ 2 ^ 22 →
-    StandFor rows taken → HasRead reader (taken ++ triples) seen → length rows.names + 3 * length triples < 2 ^ 32
-taken_few reader rows taken triples seen running few stand h =
+pub taken_few : (reader : Reading) (old rows : Rows) (taken triples : List Triple) (seen : List ℕ) → IsOk reader.so_far → LeaveRoom old reader.limits.triples →
+    GoOn old rows taken → HasRead reader (taken ++ triples) seen → length rows.names + 3 * length triples < 2 ^ 32
+taken_few reader old rows taken triples seen running room go h =
     let a = came_few reader.limits reader.so_far (taken ++ triples) seen running h in
     let b = length-append taken triples in
-    let n = names_few rows taken stand in
+    let c = length-append room.0 taken in
+    let d = room.2 in
+    let n = names_few rows (room.0 ++ taken) (go room.0 room.1) in
     omega arith
 
 -- the file was read to its end
@@ -274,27 +283,32 @@ module _ {K : Type 0} (shelf : Shelf.Ghosts K) (old mid new : K) (limits : Limit
         graph_stops gone h.1.2 (λ n le. open_front limits gone (subst (λ l. IsOpen l gone) e h.1.4) n),
       )
 
-  module _ (triples : List Triple) (seen : Limits) (after : Reading) (rows : Rows) (e : seen ≡ limits) (same : after.limits ≡ seen) (h : FeedsAll {A = Unit {0}} shelf mid new seen after (StandFor rows) (Ok tt))
+  module _ (triples : List Triple) (seen : Limits) (after : Reading) (before rows : Rows) (e : seen ≡ limits) (same : after.limits ≡ seen) (h : FeedsAll {A = Unit {0}} shelf mid new seen after (GoOn before rows) (Ok tt))
       (says : FileSays limits h.1.1 (Ok (h.1.0 ++ triples))) where
     -- the last triples are few
-    pub last_few : limits.triples ≤ 2 ^ 22 → length rows.names + 3 * length triples < 2 ^ 32
-    last_few few =
-        let a = names_few rows h.1.0 h.1.6 in
+    pub last_few : LeaveRoom before limits.triples → length rows.names + 3 * length triples < 2 ^ 32
+    last_few room =
+        let a = names_few rows (room.0 ++ h.1.0) (h.1.6 room.0 room.1) in
         let b = length-append h.1.0 triples in
         let c = says.2 in
+        let d = length-append room.0 h.1.0 in
+        let f = room.2 in
         omega arith
 
     -- it was read to its end
-    pub gives_rows : (more : Rows) → ((done : List Triple) → StandFor rows done → StandFor more (done ++ triples)) → GivesRows shelf old new limits name (Ok more)
-    gives_rows more adds = (
+    pub reads_behind : (more : Rows) → GoOn rows more triples → ReadsBehind {A = Unit {0}} shelf old new limits name before more (Ok tt)
+    reads_behind more adds = (
       h.0 ∙ count,
       (
         h.1.0 ++ triples,
-        record {
-          stand = adds h.1.0 h.1.6;
-          few = says.2;
-          says = told_more (shelf.held old) _ _ (λ files k. subst (λ b. FileSays limits b (Ok (h.1.0 ++ triples))) (sym k) says)
-              (told_file (shelf.held old) (shelf.rest mid) name (λ all. all ≡ h.1.1) found h.1.3);
-        },
+        go_on_twice before rows more h.1.0 triples h.1.6 adds,
+        says.2,
+        told_more (shelf.held old) _ _ (λ files k. subst (λ b. FileSays limits b (Ok (h.1.0 ++ triples))) (sym k) says)
+            (told_file (shelf.held old) (shelf.rest mid) name (λ all. all ≡ h.1.1) found h.1.3),
       ),
     )
+
+-- what was read behind no rows is what the file gives
+pub gives_rows : {K : Type 0} (shelf : Shelf.Ghosts K) (before after : K) (limits : Limits) (name : List ℕ) (old new : Rows) → StandFor old [] →
+    ReadsBehind {A = Unit {0}} shelf before after limits name old new (Ok tt) → GivesRows shelf before after limits name (Ok new)
+gives_rows shelf before after limits name old new empty h = (h.0, (h.1.0, record { stand = h.1.1 [] empty; few = h.1.2; says = h.1.3 }))

@@ -6,13 +6,17 @@ use Rattle.gk_base.specs.declared.stop.Stop.{Stop}
 use Rattle.gk_base.specs.declared.stop.Stop.TheVariants.{NoMemory, Fault}
 use Rattle.gk_base.specs.declared.term.Triple.{Triple}
 use Rattle.gk_io.specs.Cause.{Rose}
+use Rattle.gk_io.specs.Files.{bytes_of}
 use Rattle.gk_io.specs.declared.failed.Failed as device
 use Rattle.gk_io.specs.declared.file_fault.FileFault.{FileFault}
 use Rattle.gk_io.specs.declared.file_fault.FileFault.TheVariants.{Failed, Refused}
 use Rattle.gk_io.specs.declared.shelf.Shelf
-use Rattle.nt_reader.specs.File.{IsOpen, Refuses}
+use Rattle.nt_reader.specs.File.{FileSays, IsOpen, Refuses}
 use Rattle.nt_reader.specs.Reading.{Reading}
 use Rattle.nt_reader.specs.Kept.{HasRead}
+use Rattle.graph_rows.specs.Rows.{GoOn}
+use Rattle.graph_rows.specs.GraphFile.{StopsAtGraph}
+use Rattle.graph_rows.specs.declared.rows.Rows.{Rows}
 
 -- the shelf failed, whichever file was asked for last
 abbrev pub ShelfFails : {K : Type 0} (shelf : Shelf.Ghosts K) (before after : K) → Type 0
@@ -58,3 +62,9 @@ FeedsAll shelf before after limits fed_reader Kept (Err (Fault Failed)) = ShelfF
 FeedsAll shelf before after limits fed_reader Kept (Err (Fault (Refused refusal))) = (shelf.faults after ≡ shelf.faults before)
     × ((gone : List ℕ) × WereRead shelf before after gone × Refuses limits gone refusal
     × ((n : ℕ) → n + 65536 ≤ length gone → IsOpen limits (take n gone)))
+
+-- the graph of this name was read, and the rows go on with its triples; or why not
+abbrev pub ReadsBehind : {K A : Type 0} (shelf : Shelf.Ghosts K) (before after : K) (limits : Limits) (name : List ℕ) (old new : Rows) → Result A (Stop (FileFault ReadRefusal)) → Type 0
+ReadsBehind shelf before after limits name old new (Ok x) = (shelf.faults after ≡ shelf.faults before)
+    × ((more : List Triple) × GoOn old new more × (length more ≤ limits.triples) × IfSome (shelf.held before) (λ files. FileSays limits (bytes_of files name) (Ok more)))
+ReadsBehind shelf before after limits name old new (Err stop) = StopsAtGraph shelf before after limits name stop

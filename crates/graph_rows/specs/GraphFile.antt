@@ -11,8 +11,9 @@ use Rattle.gk_io.specs.declared.file_fault.FileFault.{FileFault}
 use Rattle.gk_io.specs.declared.file_fault.FileFault.TheVariants.{Failed, Refused}
 use Rattle.gk_io.specs.declared.shelf.Shelf
 use Rattle.nt_reader.specs.File.{FileSays, Refuses}
-use Rattle.graph_rows.specs.Rows.{StandFor}
+use Rattle.graph_rows.specs.Rows.{StandFor, GoOn}
 use Rattle.graph_rows.specs.declared.rows.Rows.{Rows}
+use Rattle.graph_rows.specs.declared.pieces.MoreRows.{MoreRows}
 
 -- The rows stand for these triples, which are no more than the limit, and where the shelf tells its files, they are what the
 -- file of this name says.
@@ -47,3 +48,17 @@ StopsAtGraph shelf before after limits name (Fault (Refused refusal)) = (shelf.f
 abbrev pub GivesRows : {K : Type 0} (shelf : Shelf.Ghosts K) (before after : K) (limits : Limits) (name : List ℕ) → Result Rows (Stop (FileFault ReadRefusal)) → Type 0
 GivesRows shelf before after limits name (Ok rows) = (shelf.faults after ≡ shelf.faults before) × ((triples : List Triple) × AreRowsOf shelf before limits name rows triples)
 GivesRows shelf before after limits name (Err stop) = StopsAtGraph shelf before after limits name stop
+
+-- The rows go on with these triples, which are no more than the limit, and where the shelf tells its files, they are what the
+-- file of this name says. How many triples were there before is told.
+pub record AreMoreRowsOf {K : Type 0} (shelf : Shelf.Ghosts K) (before : K) (limits : Limits) (name : List ℕ) (old : Rows) (m : MoreRows) (more : List Triple) : Type 0 where
+  pub stand : GoOn old m.rows more
+  pub first : (triples : List Triple) → StandFor old triples → m.first ≡ length triples
+  pub few : length more ≤ limits.triples
+  pub says : IfSome (shelf.held before) (λ files. FileSays limits (bytes_of files name) (Ok more))
+
+-- What reading the graph of this name behind rows that are there gives: the rows and names of both, and the shelf did not
+-- fail; or what stopped it.
+abbrev pub GivesMoreRows : {K : Type 0} (shelf : Shelf.Ghosts K) (before after : K) (limits : Limits) (name : List ℕ) (old : Rows) → Result MoreRows (Stop (FileFault ReadRefusal)) → Type 0
+GivesMoreRows shelf before after limits name old (Ok m) = (shelf.faults after ≡ shelf.faults before) × ((more : List Triple) × AreMoreRowsOf shelf before limits name old m more)
+GivesMoreRows shelf before after limits name old (Err stop) = StopsAtGraph shelf before after limits name stop

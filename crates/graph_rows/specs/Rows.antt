@@ -1,5 +1,5 @@
 -- Triples in numbers: this project's own words.
-use Rattle.std.specs.Prelude.{List, map, length, ◌≡◌, ◌≤◌, ◌^◌}
+use Rattle.std.specs.Prelude.{List, ℕ, map, length, ◌++◌, ◌≡◌, ◌≤◌, ◌+◌, ◌^◌}
 use Rattle.gk_base.specs.declared.term.Triple.{Triple}
 use Rattle.term_table.specs.Numbering.{names_of}
 use Rattle.term_list.specs.Triples.{terms_of}
@@ -14,3 +14,11 @@ pub record StandFor (r : Rows) (triples : List Triple) : Type 0 where
 -- they stand for triples that are no more than a graph may have
 abbrev pub AreFew : Rows → Type 0
 AreFew r = (triples : List Triple) × StandFor r triples × (length triples ≤ 2 ^ 22)
+
+-- with so many triples more they would be no more than a graph may have
+abbrev pub LeaveRoom : Rows → ℕ → Type 0
+LeaveRoom r count = (triples : List Triple) × StandFor r triples × (length triples + count ≤ 2 ^ 22)
+
+-- the rows go on with these triples: whatever triples they stood for, these stand behind them now
+abbrev pub GoOn : (old new : Rows) → List Triple → Type 0
+GoOn old new more = (triples : List Triple) → StandFor old triples → StandFor new (triples ++ more)

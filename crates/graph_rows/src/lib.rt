@@ -1,6 +1,6 @@
 //! A graph in numbers: from a shelf's file to rows and names, or what stopped it; and from those and the keys to what a chase
-//! works on. Two doors read files, `read_rows` a graph piece by piece and `load` the first bytes of any file, and `number`
-//! makes the graph and the patterns.
+//! works on. Three doors read files, `read_rows` a graph piece by piece, `read_more_rows` a second one behind it, and `load` the
+//! first bytes of any file. `number` makes the graph and the patterns.
 //!
 //! - `loading`: the first bytes of a file
 //! - `rows`: triples in numbers
@@ -15,5 +15,5 @@ mod rows;
 
 pub use loading::load;
 pub use numbering::{Numbered, number};
-pub use pieces::read_rows;
+pub use pieces::{MoreRows, read_more_rows, read_rows};
 pub use rows::Rows;

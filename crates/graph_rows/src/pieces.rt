@@ -2,9 +2,9 @@
 
 ghost use Rattle.std.specs.Prelude.{◌≡◌, ◌+◌, ◌<◌, ◌≤◌, ◌^◌, [], length};
 ghost use Rattle.nt_reader.specs.Kept.{HasRead};
-ghost use Rattle.graph_rows.specs.Rows.{StandFor};
-ghost use Rattle.graph_rows.specs.GraphFile.{GivesRows};
-ghost use Rattle.graph_rows.specs.Feeding.{FeedsNext, FeedsAll};
+ghost use Rattle.graph_rows.specs.Rows.{GoOn, LeaveRoom};
+ghost use Rattle.graph_rows.specs.GraphFile.{GivesRows, GivesMoreRows};
+ghost use Rattle.graph_rows.specs.Feeding.{FeedsNext, FeedsAll, ReadsBehind};
 
 use crate::loading::buffer;
 use crate::rows::Rows;
@@ -31,8 +31,17 @@ fn feed_next<S: Shelf>(
     Ok(count)
 }
 
-/// Reads on to the end of the file. Each piece is fed, and the triples that it ends are numbered, before the next is read.
-/// They pass through the one list of triples.
+/// Rows, and how many of them came first.
+#[derive(Drop)]
+pub struct MoreRows {
+    /// All rows, with the names of all.
+    pub rows: Rows,
+    /// How many of the rows were there before.
+    pub first: usize,
+}
+
+/// Reads on to the end of the file. Each piece is fed, and the triples that it ends are numbered behind those that are there,
+/// before the next is read. They pass through the one list of triples.
 fn feed_all<S: Shelf>(
     shelf: &mut S,
     buf: &mut [u8],
@@ -42,14 +51,13 @@ fn feed_all<S: Shelf>(
 ) -> Result<(), FileStop<ReadRefusal>>
     requires some { 0 < length buf.old }
     requires few { length buf.old ≤ 65536 }
-    requires limit { reader.old.limits.triples ≤ 2 ^ 22 }
+    requires room { LeaveRoom rows.old reader.old.limits.triples }
     requires fresh { HasRead reader.old [] [] }
     requires none { triples.old ≡ [] }
-    requires empty { StandFor rows.old [] }
     ensures held { S.held shelf.new ≡ S.held shelf.old }
     ensures asked { S.asked shelf.new ≡ S.asked shelf.old }
     ensures limits { reader.new.limits ≡ reader.old.limits }
-    ensures feeds { FeedsAll S.Shelf shelf.old shelf.new reader.old.limits reader.new (StandFor rows.new) result }
+    ensures feeds { FeedsAll S.Shelf shelf.old shelf.new reader.old.limits reader.new (GoOn rows.old rows.new) result }
 {
     'pieces: loop {
         let count = feed_next(shelf, buf, reader)?;
@@ -59,6 +67,30 @@ fn feed_all<S: Shelf>(
             return Ok(());
         }
     }
+}
+
+/// Finds the file of this name, reads it to its end, and numbers its triples behind those that are there.
+fn read_behind<S: Shelf>(
+    alloc: Global,
+    shelf: &mut S,
+    name: &Text,
+    limits: &Limits,
+    rows: &mut Rows,
+) -> Result<(), FileStop<ReadRefusal>>
+    requires bytes { limits.now.bytes + 1 < 2 ^ 64 }
+    requires room { LeaveRoom rows.old limits.now.triples }
+    ensures held { S.held shelf.new ≡ S.held shelf.old }
+    ensures reads { ReadsBehind S.Shelf shelf.old shelf.new limits.now name.now rows.old rows.new result }
+{
+    let mut buf = buffer(alloc)?;
+    shelf.find(name.copy()?)?;
+    let mut reader = Reader::new(alloc, limits);
+    rows.expect(shelf.size_hint());
+    let mut triples = Triples::new(alloc);
+    feed_all(shelf, &mut buf, &mut reader, &mut triples, rows)?;
+    let mut last = reader.finish().map_err(file_stop)?;
+    rows.add(&mut last)?;
+    Ok(())
 }
 
 /// The rows and names of the graph of this name. The file is read piece by piece, and no further once it is refused: of the
@@ -78,14 +110,30 @@ pub fn read_rows<S: Shelf>(
     ensures held { S.held shelf.new ≡ S.held shelf.old }
     ensures gives { GivesRows S.Shelf shelf.old shelf.new limits.now name.now result }
 {
-    let mut buf = buffer(alloc)?;
-    shelf.find(name.copy()?)?;
-    let mut reader = Reader::new(alloc, limits);
     let mut rows = Rows::new(alloc, shelf.hash_seed());
-    rows.expect(shelf.size_hint());
-    let mut triples = Triples::new(alloc);
-    feed_all(shelf, &mut buf, &mut reader, &mut triples, &mut rows)?;
-    let mut last = reader.finish().map_err(file_stop)?;
-    rows.add(&mut last)?;
+    read_behind(alloc, shelf, name, limits, &mut rows)?;
     Ok(rows)
+}
+
+/// The rows and names of the graph of this name behind those that are there, as `read_rows` reads them. A term that is a name
+/// already keeps its number. The limit of triples counts those of this file alone, and has to leave room: with the triples
+/// that are there they may be no more than a graph may have.
+///
+/// What stops it is what stops `read_rows`, and the rows that were there are gone then.
+pub fn read_more_rows<S: Shelf>(
+    alloc: Global,
+    shelf: &mut S,
+    name: &Text,
+    limits: &Limits,
+    rows: Rows,
+) -> Result<MoreRows, FileStop<ReadRefusal>>
+    requires bytes { limits.now.bytes + 1 < 2 ^ 64 }
+    requires room { LeaveRoom rows limits.now.triples }
+    ensures held { S.held shelf.new ≡ S.held shelf.old }
+    ensures gives { GivesMoreRows S.Shelf shelf.old shelf.new limits.now name.now rows result }
+{
+    let first = rows.rows.len();
+    let mut rows = rows;
+    read_behind(alloc, shelf, name, limits, &mut rows)?;
+    Ok(MoreRows { rows, first })
 }

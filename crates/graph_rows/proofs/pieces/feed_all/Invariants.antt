@@ -1,6 +1,6 @@
-use Rattle.std.proofs.Common.{List, [], ℕ, ◌≡◌, ◌<◌, ◌≤◌, ◌^◌, length}
+use Rattle.std.proofs.Common.{List, [], ℕ, ◌≡◌, ◌<◌, ◌≤◌, length}
 use Rattle.gk_base.specs.declared.term.Triple.{Triple}
-use Rattle.graph_rows.specs.Rows.{StandFor}
+use Rattle.graph_rows.specs.Rows.{GoOn, LeaveRoom}
 use Rattle.graph_rows.proofs.FeedingLemmas.{HasFed, left_of}
 use Rattle.graph_rows.proofs.pieces.feed_all.Given as goal
 
@@ -14,8 +14,8 @@ invariant-pieces g l =
       some : 0 < length l.buf;
       few : length l.buf ≤ 65536;
       none : l.triples ≡ [];
-      limit : l.reader.limits.triples ≤ 2 ^ 22;
-      fed : (taken : List Triple) × (seen : List ℕ) × HasFed shelf l.fn.shelf l.shelf l.fn.reader.limits l.reader (StandFor l.rows) taken seen;
+      room : LeaveRoom l.fn.rows l.reader.limits.triples;
+      fed : (taken : List Triple) × (seen : List ℕ) × HasFed shelf l.fn.shelf l.shelf l.fn.reader.limits l.reader (GoOn l.fn.rows l.rows) taken seen;
     }
 
 abbrev pub decreases-pieces : goal.decreases-pieces
