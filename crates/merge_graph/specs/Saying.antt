@@ -7,7 +7,7 @@ use Rattle.gk_base.specs.declared.term.Term.TheVariants.{Iri, Blank, Plain, Type
 use Rattle.gk_base.specs.declared.term.Triple.{Triple}
 use Rattle.nt_reader.specs.File.{FileSays}
 use Rattle.term_text.specs.ReadBack.{CanBeSpelled}
-use Rattle.merge_graph.specs.MergedGraph.{name_at, same_label, IsMerged}
+use Rattle.merge_graph.specs.MergedGraph.{name_at, same_label, lines_of, IsMerged}
 
 -- an IRI, which a predicate has to be (RDF 1.1 Concepts, section 3.1)
 abbrev pub is_iri : Term → Bool
@@ -29,8 +29,9 @@ pub record CanBeSaid (names : List Term) (rows : List (List ℕ)) (labels : List
 abbrev pub IsReadAs : List ℕ → List Triple → Type 0
 IsReadAs text triples = (limits : Limits) → length text ≤ limits.bytes → length triples ≤ limits.triples → FileSays limits text (Ok triples)
 
--- the text is read as the merged graph
+-- the text is that of the merged graph, and is read as it
 pub record IsReadAsMerged (names : List Term) (rows : List (List ℕ)) (same : ℕ → ℕ → Bool) (text : List ℕ) : Type 0 where
   pub listed : List Triple
   pub merged : IsMerged names rows same listed
+  pub whole : text ≡ lines_of listed
   pub reads : IsReadAs text listed

@@ -46,5 +46,6 @@ returns-clause-read_back c = λ can.
     record {
       listed = p.listed;
       merged = record { faces = faces; are_faces = c.in_ok-faces.ensures; once = p.once };
+      whole = p.whole;
       reads = said_again p.listed c.from_vec.result (λ k d l. All-contains IsSayable (map (image names faces) c.args.rows.now) _ sayable (p.once.only k d l)) p.whole;
     }
