@@ -1,5 +1,5 @@
 -- How a run ends, from what was read.
-use Rattle.std.proofs.Common.{List, [], ◌∷◌, ◌++◌, ℕ, Option, Some, Result, Ok, Err, IfSome, IsSomeAnd, MatchResult, Vec, Global, vec_items, ◌≡◌, ◌∙◌, inl, inr, refl, sym, subst}
+use Rattle.std.proofs.Common.{List, [], ◌∷◌, ◌++◌, ℕ, true, All, map, Option, Some, Result, Ok, Err, IfSome, IsSomeAnd, MatchResult, Vec, Global, vec_items, ◌≡◌, ◌∙◌, inl, inr, refl, sym, subst}
 use Rattle.gk_base.specs.declared.limits.Limits.{Limits}
 use Rattle.gk_base.specs.declared.read_fault.ReadRefusal.{ReadRefusal}
 use Rattle.gk_base.specs.declared.stop.Stop.{Stop}
@@ -12,29 +12,35 @@ use Rattle.gk_io.specs.declared.file_fault.FileFault.TheVariants as fault
 use Rattle.gk_io.specs.declared.shelf.Shelf
 use Rattle.nt_reader.proofs.CallerLemmas.{file_once}
 use Rattle.key_file.specs.KeyShape.{KeyShape}
+use Rattle.key_file.specs.Name.{is_name}
+use Rattle.key_file.specs.Numbered.{names_for}
 use Rattle.key_lang.proofs.CallerLemmas.{keys_once}
+use Rattle.term_text.specs.ReadBack.{CanBeSpelled}
 use Rattle.proof_graph.specs.Steps.{StepShape}
 use Rattle.proof_graph.specs.CanonicalProof.{proof_text}
 use Rattle.proof_check.specs.Verdict.{verdict}
 use Rattle.graph_rows.specs.GraphFile.{StopsSoon, StopsAtGraph}
 use Rattle.graph_rows.proofs.CallerLemmas.{told, told_more, told_both}
-use Rattle.gkey_cmd.specs.Commands.{Wanted, Matching, Proving, Checking, Converting, Demonstrating, demo_graph_name, demo_keys_name, files_of}
+use Rattle.gkey_cmd.specs.Commands.{Wanted, Matching, Proving, Checking, Converting, Demonstrating, Merging, Explaining, demo_graph_name, demo_keys_name, files_of}
 use Rattle.gkey_cmd.specs.Reading.{NamedFiles, IsAccepted, GraphSays, KeyFileSays, ProofFileSays, IsRefusedSo, AllAccepted, FirstRefused}
 use Rattle.gkey_cmd.specs.HowFar.{IsReadWithin, FileLeft, KeysLeft, ProofLeft, ChaseStops, LeavesFiles, StopsReading}
 use Rattle.gkey_cmd.specs.Failing.{HasFailed}
 use Rattle.gkey_cmd.specs.Matched.{IsReport, HasTooManyPairs}
 use Rattle.gkey_cmd.specs.Checked.{verdict_answer, verdict_text}
+use Rattle.gkey_cmd.specs.Entities.{NamesOne}
 use Rattle.gkey_cmd.specs.Written.{ChaseHasMorePairs, IsAnswered, IsRefused}
-use Rattle.gkey_cmd.specs.ChaseEnds.{ChaseEnds, IsProofOfFiles}
+use Rattle.gkey_cmd.specs.ChaseEnds.{ChaseEnds, IsProofOfFiles, IsMergedOfFiles, IsWhyOfFiles, NameTwo, WhyEnds}
 use Rattle.gkey_cmd.proofs.Spelled.{names_good, names_spelled}
+use Rattle.gkey_cmd.proofs.OfFiles.{triples_of_file}
 use Rattle.gkey_cmd.specs.Demo.{demo_files, IsDemoText}
-use Rattle.gkey_cmd.specs.Endings.{graph_ending, Stopped, DemoStops, Caused, HasNoAnswer, StopsAt, EndsAt, ReadSoFar}
+use Rattle.gkey_cmd.specs.Endings.{graph_ending, Stopped, DemoStops, Caused, IsBeforeChase, StopsAt, EndsAt, ReadSoFar}
 use Rattle.gkey_cmd.specs.declared.file.File.{File}
 use Rattle.gkey_cmd.specs.declared.file.File.TheVariants.{Graph, Keys, Proof}
 use Rattle.gkey_cmd.specs.declared.ending.Answer.{Answer}
-use Rattle.gkey_cmd.specs.declared.ending.Answer.TheVariants.{Given}
+use Rattle.gkey_cmd.specs.declared.ending.Answer.TheVariants.{Given, NotAccepted, NotTheSame}
+use Rattle.gkey_cmd.specs.declared.ending.Asked.TheVariants.{First, Second}
 use Rattle.gkey_cmd.specs.declared.ending.Refusal.{Refusal}
-use Rattle.gkey_cmd.specs.declared.ending.Refusal.TheVariants.{InGraph, InKeys, InProof, MorePairsThan}
+use Rattle.gkey_cmd.specs.declared.ending.Refusal.TheVariants.{InGraph, InKeys, InProof, NoSuchEntity, MorePairsThan}
 use Rattle.gkey_cmd.specs.declared.ending.Ending.{Ending}
 use Rattle.gkey_cmd.specs.declared.ending.Ending.TheVariants.{NoCommand, Failed, Refused, NoMemory, Done}
 
@@ -84,14 +90,17 @@ module _ {K : Type 0} (shelf : Shelf.Ghosts K) (old mid new : K) (limits : Limit
   stops_first Graph (InGraph refusal) h = (h.0, told_first (λ files. IsSomeAnd (shelf.rest new) (λ rest. StopsSoon limits (bytes_of files name) rest)) h.1)
   stops_first Graph (InKeys refusal) h = h
   stops_first Graph (InProof refusal) h = h
+  stops_first Graph (NoSuchEntity asked) h = h
   stops_first Graph (MorePairsThan limit) h = h
   stops_first Keys (InGraph refusal) h = h
   stops_first Keys (InKeys refusal) h = file_left_first limits.key_bytes h
   stops_first Keys (InProof refusal) h = h
+  stops_first Keys (NoSuchEntity asked) h = h
   stops_first Keys (MorePairsThan limit) h = h
   stops_first Proof (InGraph refusal) h = h
   stops_first Proof (InKeys refusal) h = h
   stops_first Proof (InProof refusal) h = file_left_first limits.bytes h
+  stops_first Proof (NoSuchEntity asked) h = h
   stops_first Proof (MorePairsThan limit) h = h
 
   -- the next file is not to be had
@@ -129,12 +138,14 @@ module _ {K : Type 0} (shelf : Shelf.Ghosts K) (old new : K) (limits : Limits) (
   stops_at_graph (InGraph refusal) h = h
   stops_at_graph (InKeys refusal) h = absurd h
   stops_at_graph (InProof refusal) h = absurd h
+  stops_at_graph (NoSuchEntity asked) h = absurd h
   stops_at_graph (MorePairsThan limit) h = absurd h
 
   pub stops_at_keys : (refusal : Refusal) → StopsAt shelf old new limits Keys keys refusal → ChaseStops shelf old new graph keys limits refusal
   stops_at_keys (InGraph refusal) h = absurd h
   stops_at_keys (InKeys refusal) h = h
   stops_at_keys (InProof refusal) h = absurd h
+  stops_at_keys (NoSuchEntity asked) h = absurd h
   stops_at_keys (MorePairsThan limit) h = absurd h
 
   -- a check that is refused at each of its files
@@ -142,18 +153,21 @@ module _ {K : Type 0} (shelf : Shelf.Ghosts K) (old new : K) (limits : Limits) (
   check_stops_at_graph (InGraph refusal) h = h
   check_stops_at_graph (InKeys refusal) h = absurd h
   check_stops_at_graph (InProof refusal) h = absurd h
+  check_stops_at_graph (NoSuchEntity asked) h = absurd h
   check_stops_at_graph (MorePairsThan limit) h = absurd h
 
   pub check_stops_at_keys : (refusal : Refusal) → StopsAt shelf old new limits Keys keys refusal → StopsReading shelf old new (Some (Checking graph keys proof)) limits refusal
   check_stops_at_keys (InGraph refusal) h = absurd h
   check_stops_at_keys (InKeys refusal) h = h
   check_stops_at_keys (InProof refusal) h = absurd h
+  check_stops_at_keys (NoSuchEntity asked) h = absurd h
   check_stops_at_keys (MorePairsThan limit) h = absurd h
 
   pub check_stops_at_proof : (refusal : Refusal) → StopsAt shelf old new limits Proof proof refusal → StopsReading shelf old new (Some (Checking graph keys proof)) limits refusal
   check_stops_at_proof (InGraph refusal) h = absurd h
   check_stops_at_proof (InKeys refusal) h = absurd h
   check_stops_at_proof (InProof refusal) h = h
+  check_stops_at_proof (NoSuchEntity asked) h = absurd h
   check_stops_at_proof (MorePairsThan limit) h = absurd h
 
   -- a proof file that is not converted
@@ -161,6 +175,7 @@ module _ {K : Type 0} (shelf : Shelf.Ghosts K) (old new : K) (limits : Limits) (
   convert_stops (InGraph refusal) h = absurd h
   convert_stops (InKeys refusal) h = absurd h
   convert_stops (InProof refusal) h = h
+  convert_stops (NoSuchEntity asked) h = absurd h
   convert_stops (MorePairsThan limit) h = absurd h
 
 -- ---- a chase
@@ -168,6 +183,13 @@ module _ {K : Type 0} (shelf : Shelf.Ghosts K) (old new : K) (limits : Limits) (
 module _ (limits : Limits) (files : NamedFiles) (graph keys : List ℕ) (triples : List Triple) (key_list : List KeyShape) (in_graph : GraphSays limits (bytes_of files graph) (Ok triples)) (in_keys : KeyFileSays limits (bytes_of files keys) (Ok key_list)) where
   both_accepted : AllAccepted limits files ((Graph, graph) ∷ (Keys, keys) ∷ [])
   both_accepted = ((triples, in_graph), ((key_list, in_keys), tt))
+
+  -- the names can be spelled, and the keys have names
+  spelled : All CanBeSpelled (names_for triples key_list)
+  spelled = names_spelled limits limits.key_bytes (bytes_of files graph) (bytes_of files keys) triples key_list in_graph in_keys
+
+  good : All (λ name. is_name name ≡ true) (map (λ (k : KeyShape). k.name) key_list)
+  good = names_good limits.key_bytes (bytes_of files keys) key_list in_keys
 
   more_here : HasTooManyPairs triples key_list limits.pairs → ChaseHasMorePairs limits files graph keys
   more_here h = (triples, key_list, in_graph, in_keys, h)
@@ -183,16 +205,48 @@ module _ (limits : Limits) (files : NamedFiles) (graph keys : List ℕ) (triples
       subst (λ ts. HasTooManyPairs ts key_list limits.pairs) same_triples (subst (λ q. HasTooManyPairs h.0 q limits.pairs) same_key h.4)
 
   match_answered : (text : List ℕ) → IsReport triples key_list text → ¬ (HasTooManyPairs triples key_list limits.pairs) → IsAnswered (Some (Matching graph keys)) files limits Given text
-  match_answered text report none_more = ((both_accepted, (λ h. none_more (more_only_here h))), (triples, key_list, in_graph, in_keys, report))
+  match_answered text report none_more = ((both_accepted, tt, (λ h. none_more (more_only_here h))), (triples, key_list, in_graph, in_keys, report))
 
   prove_answered : (text : List ℕ) → IsProofOfFiles triples key_list text → ¬ (HasTooManyPairs triples key_list limits.pairs) → IsAnswered (Some (Proving graph keys)) files limits Given text
-  prove_answered text proof none_more = ((both_accepted, (λ h. none_more (more_only_here h))), (triples, key_list, in_graph, in_keys, proof (names_spelled limits limits.key_bytes (bytes_of files graph) (bytes_of files keys) triples key_list in_graph in_keys) (names_good limits.key_bytes (bytes_of files keys) key_list in_keys)))
+  prove_answered text proof none_more = ((both_accepted, tt, (λ h. none_more (more_only_here h))), (triples, key_list, in_graph, in_keys, proof spelled good))
+
+  merge_answered : (text : List ℕ) → IsMergedOfFiles triples key_list text → ¬ (HasTooManyPairs triples key_list limits.pairs) → IsAnswered (Some (Merging graph keys)) files limits Given text
+  merge_answered text merged none_more = (
+    (both_accepted, tt, (λ h. none_more (more_only_here h))),
+    (triples, key_list, in_graph, in_keys, merged spelled (triples_of_file limits (bytes_of files graph) triples in_graph)),
+  )
+
+  why_answered : (first second : List ℕ) (answer : Answer) (text : List ℕ) → NameTwo triples first second → ¬ (HasTooManyPairs triples key_list limits.pairs) →
+      IsWhyOfFiles triples key_list first second answer text → IsAnswered (Some (Explaining graph keys first second)) files limits answer text
+  why_answered first second Given text named none_more h = (
+    (both_accepted, (triples, in_graph, named.0, named.1), (λ m. none_more (more_only_here m))),
+    (triples, key_list, in_graph, in_keys, h spelled good),
+  )
+  why_answered first second NotAccepted text named none_more h = absurd h
+  why_answered first second NotTheSame text named none_more h = (
+    (both_accepted, (triples, in_graph, named.0, named.1), (λ m. none_more (more_only_here m))),
+    (triples, key_list, in_graph, in_keys, h.0, h.1),
+  )
 
   match_refused : HasTooManyPairs triples key_list limits.pairs → IsRefused (Some (Matching graph keys)) files limits (MorePairsThan limits.pairs)
-  match_refused h = inr (both_accepted, more_here h, refl)
+  match_refused h = inr (both_accepted, (tt, more_here h, refl))
 
   prove_refused : HasTooManyPairs triples key_list limits.pairs → IsRefused (Some (Proving graph keys)) files limits (MorePairsThan limits.pairs)
-  prove_refused h = inr (both_accepted, more_here h, refl)
+  prove_refused h = inr (both_accepted, (tt, more_here h, refl))
+
+  merge_refused : HasTooManyPairs triples key_list limits.pairs → IsRefused (Some (Merging graph keys)) files limits (MorePairsThan limits.pairs)
+  merge_refused h = inr (both_accepted, (tt, more_here h, refl))
+
+  -- `why` is refused for a word that names no entity, or for too many pairs
+  first_refused : (first second : List ℕ) → ¬ (NamesOne triples first) → IsRefused (Some (Explaining graph keys first second)) files limits (NoSuchEntity First)
+  first_refused first second none = inr (both_accepted, (triples, in_graph, none))
+
+  second_refused : (first second : List ℕ) → NamesOne triples first → ¬ (NamesOne triples second) → IsRefused (Some (Explaining graph keys first second)) files limits (NoSuchEntity Second)
+  second_refused first second one none = inr (both_accepted, (triples, in_graph, one, none))
+
+  why_refused : (first second : List ℕ) (most : ℕ) → NameTwo triples first second → HasTooManyPairs triples key_list limits.pairs → most ≡ limits.pairs →
+      IsRefused (Some (Explaining graph keys first second)) files limits (MorePairsThan most)
+  why_refused first second most named h e = inr (both_accepted, ((triples, in_graph, named.0, named.1), more_here h, e))
 
 -- a demo whose texts are read
 module _ (n : ℕ) (limits : Limits) (triples : List Triple) (key_list : List KeyShape) (in_graph : GraphSays limits (bytes_of (demo_files n) demo_graph_name) (Ok triples)) (in_keys : KeyFileSays limits (bytes_of (demo_files n) demo_keys_name) (Ok key_list)) where
@@ -201,6 +255,7 @@ module _ (n : ℕ) (limits : Limits) (triples : List Triple) (key_list : List Ke
   demo_ended (Ok text) h = (
     (
       both_accepted limits (demo_files n) demo_graph_name demo_keys_name triples key_list in_graph in_keys,
+      tt,
       (λ more. h.1 (more_only_here limits (demo_files n) demo_graph_name demo_keys_name triples key_list in_graph in_keys more)),
     ),
     (triples, key_list, in_graph, in_keys, h.0),
@@ -208,8 +263,7 @@ module _ (n : ℕ) (limits : Limits) (triples : List Triple) (key_list : List Ke
   demo_ended (Err (Refused refusal)) h = subst (λ r. IsRefused (Some (Demonstrating n)) (demo_files n) limits r) (sym h.0)
       (inr (
         both_accepted limits (demo_files n) demo_graph_name demo_keys_name triples key_list in_graph in_keys,
-        more_here limits (demo_files n) demo_graph_name demo_keys_name triples key_list in_graph in_keys h.1,
-        refl,
+        (tt, more_here limits (demo_files n) demo_graph_name demo_keys_name triples key_list in_graph in_keys h.1, refl),
       ))
   demo_ended (Err NoMemory) h = tt
   demo_ended (Err NoCommand) h = absurd h
@@ -250,6 +304,39 @@ module _ {K : Type 0} (shelf : Shelf.Ghosts K) (old new : K) (limits : Limits) (
       MatchResult result (λ text. Stopped shelf old new (Proving graph keys) limits (Done Given text)) (Stopped shelf old new (Proving graph keys) limits)
   prove_ended left = chase_ended (Proving graph keys) IsProofOfFiles left left (λ files g k. prove_answered limits files graph keys triples key_list g k) (λ files g k. prove_refused limits files graph keys triples key_list g k)
 
+  pub merge_ended : KeysLeft shelf old new limits keys → (result : Result (Vec ℕ Global) Ending) → ChaseEnds IsMergedOfFiles triples key_list limits.pairs result →
+      MatchResult result (λ text. Stopped shelf old new (Merging graph keys) limits (Done Given text)) (Stopped shelf old new (Merging graph keys) limits)
+  merge_ended left = chase_ended (Merging graph keys) IsMergedOfFiles left left (λ files g k. merge_answered limits files graph keys triples key_list g k) (λ files g k. merge_refused limits files graph keys triples key_list g k)
+
+  -- `why` is refused so where its files are read
+  why_stopped : KeysLeft shelf old new limits keys → (first second : List ℕ) (refusal : Refusal) → ChaseStops shelf old new graph keys limits refusal →
+      ((files : NamedFiles) → GraphSays limits (bytes_of files graph) (Ok triples) → KeyFileSays limits (bytes_of files keys) (Ok key_list) → IsRefused (Some (Explaining graph keys first second)) files limits refusal) →
+      Stopped shelf old new (Explaining graph keys first second) limits (Refused refusal)
+  why_stopped left first second refusal stops refused =
+      (count, told_both (shelf.held old) _ _ (λ files. IsRefused (Some (Explaining graph keys first second)) files limits refusal) refused in_graph in_keys, stops)
+
+  pub explain_ended : KeysLeft shelf old new limits keys → (first second : List ℕ) (result : Result (Answer × Vec ℕ Global) Ending) → WhyEnds triples key_list first second limits.pairs result →
+      MatchResult result (λ r. Stopped shelf old new (Explaining graph keys first second) limits (Done r.0 r.1)) (Stopped shelf old new (Explaining graph keys first second) limits)
+  explain_ended left first second (Ok r) h = (
+    count,
+    told_both (shelf.held old) _ _ (λ files. IsAnswered (Some (Explaining graph keys first second)) files limits r.0 (vec_items r.1))
+        (λ files g k. why_answered limits files graph keys triples key_list g k first second r.0 (vec_items r.1) h.0 h.1 h.2) in_graph in_keys,
+    left,
+  )
+  explain_ended left first second (Err (Refused (InGraph refusal))) h = absurd h
+  explain_ended left first second (Err (Refused (InKeys refusal))) h = absurd h
+  explain_ended left first second (Err (Refused (InProof refusal))) h = absurd h
+  explain_ended left first second (Err (Refused (NoSuchEntity First))) h =
+      why_stopped left first second (NoSuchEntity First) left (λ files g k. first_refused limits files graph keys triples key_list g k first second h)
+  explain_ended left first second (Err (Refused (NoSuchEntity Second))) h =
+      why_stopped left first second (NoSuchEntity Second) left (λ files g k. second_refused limits files graph keys triples key_list g k first second h.0 h.1)
+  explain_ended left first second (Err (Refused (MorePairsThan most))) h =
+      why_stopped left first second (MorePairsThan most) left (λ files g k. why_refused limits files graph keys triples key_list g k first second most h.0 h.1 h.2)
+  explain_ended left first second (Err NoMemory) h = count
+  explain_ended left first second (Err NoCommand) h = absurd h
+  explain_ended left first second (Err (Failed file)) h = absurd h
+  explain_ended left first second (Err (Done answer text)) h = absurd h
+
   -- ---- a check
   module _ (proof : List ℕ) (steps : List StepShape) (in_proof : IfSome (shelf.held old) (λ files. ProofFileSays limits (bytes_of files proof) (Ok steps))) (left : ProofLeft shelf old new limits proof) where
     pub check_ended : (answer : Answer) (text : Vec ℕ Global) → answer ≡ verdict_answer (verdict triples key_list steps) → vec_items text ≡ verdict_text (verdict triples key_list steps) →
@@ -258,7 +345,7 @@ module _ {K : Type 0} (shelf : Shelf.Ghosts K) (old new : K) (limits : Limits) (
       count,
       told_both (shelf.held old) _ _ (λ files. IsAnswered (Some (Checking graph keys proof)) files limits answer (vec_items text))
           (λ files g p. (
-            (((triples, g), ((key_list, p.0), ((steps, p.1), tt))), (λ h. h)),
+            (((triples, g), ((key_list, p.0), ((steps, p.1), tt))), tt, (λ h. h)),
             (triples, key_list, steps, g, p.0, p.1, a, t),
           ))
           in_graph (told_both (shelf.held old) _ _ (λ files. KeyFileSays limits (bytes_of files keys) (Ok key_list) × ProofFileSays limits (bytes_of files proof) (Ok steps)) (λ files k p. (k, p)) in_keys in_proof),
@@ -273,20 +360,62 @@ pub convert_ended : {K : Type 0} (shelf : Shelf.Ghosts K) (old new : K) (limits 
 convert_ended shelf old new limits proof steps text count in_proof left t = (
   count,
   told_more (shelf.held old) _ (λ files. IsAnswered (Some (Converting proof)) files limits Given (vec_items text))
-      (λ files p. ((((steps, p), tt), (λ h. h)), (steps, p, t))) in_proof,
+      (λ files p. ((((steps, p), tt), tt, (λ h. h)), (steps, p, t))) in_proof,
   left,
 )
 
 -- ---- commands whose graph or keys are not to be had
 
--- an ending at a file is no answer
-pub no_answer_at : {K : Type 0} (shelf : Shelf.Ghosts K) (before after : K) (limits : Limits) (file : File) (name : List ℕ) (ending : Ending) →
-    EndsAt shelf before after limits file name ending → HasNoAnswer ending
-no_answer_at shelf before after limits file name NoCommand h = tt
-no_answer_at shelf before after limits file name (Failed which) h = tt
-no_answer_at shelf before after limits file name (Refused refusal) h = tt
-no_answer_at shelf before after limits file name NoMemory h = tt
-no_answer_at shelf before after limits file name (Done answer text) h = h
+-- an ending at a file comes before a chase
+pub before_chase : {K : Type 0} (shelf : Shelf.Ghosts K) (before after : K) (limits : Limits) (file : File) (name : List ℕ) (ending : Ending) →
+    EndsAt shelf before after limits file name ending → IsBeforeChase ending
+before_chase shelf before after limits file name NoCommand h = tt
+before_chase shelf before after limits file name (Failed which) h = tt
+before_chase shelf before after limits file name (Refused (InGraph refusal)) h = tt
+before_chase shelf before after limits file name (Refused (InKeys refusal)) h = tt
+before_chase shelf before after limits file name (Refused (InProof refusal)) h = tt
+before_chase shelf before after limits Graph name (Refused (NoSuchEntity asked)) h = h.2
+before_chase shelf before after limits Keys name (Refused (NoSuchEntity asked)) h = h.2
+before_chase shelf before after limits Proof name (Refused (NoSuchEntity asked)) h = h.2
+before_chase shelf before after limits Graph name (Refused (MorePairsThan limit)) h = h.2
+before_chase shelf before after limits Keys name (Refused (MorePairsThan limit)) h = h.2
+before_chase shelf before after limits Proof name (Refused (MorePairsThan limit)) h = h.2
+before_chase shelf before after limits file name NoMemory h = tt
+before_chase shelf before after limits file name (Done answer text) h = h
+
+-- A match that is refused before its chase: so is each command with the same files.
+refused_alike : (limits : Limits) (files : NamedFiles) (graph keys : List ℕ) (command : Wanted) → files_of command ≡ (Graph, graph) ∷ (Keys, keys) ∷ [] → (refusal : Refusal) → IsBeforeChase (Refused refusal) →
+    IsRefused (Some (Matching graph keys)) files limits refusal → IsRefused (Some command) files limits refusal
+refused_alike limits files graph keys command e refusal b (inl h) = inl (subst (λ fs. FirstRefused limits files fs refusal) (sym e) h)
+refused_alike limits files graph keys command e (InGraph refusal) b (inr h) = absurd h.1
+refused_alike limits files graph keys command e (InKeys refusal) b (inr h) = absurd h.1
+refused_alike limits files graph keys command e (InProof refusal) b (inr h) = absurd h.1
+refused_alike limits files graph keys command e (NoSuchEntity asked) b (inr h) = absurd b
+refused_alike limits files graph keys command e (MorePairsThan limit) b (inr h) = absurd b
+
+-- what ends a match before its chase ends each command with the same files that reads them as far
+pub ends_alike : {K : Type 0} (shelf : Shelf.Ghosts K) (old new : K) (limits : Limits) (graph keys : List ℕ) (command : Wanted) → files_of command ≡ (Graph, graph) ∷ (Keys, keys) ∷ [] →
+    ((refusal : Refusal) → ChaseStops shelf old new graph keys limits refusal → StopsReading shelf old new (Some command) limits refusal) →
+    (ending : Ending) → IsBeforeChase ending → Stopped shelf old new (Matching graph keys) limits ending → Stopped shelf old new command limits ending
+ends_alike shelf old new limits graph keys command e stops NoCommand b h = absurd h
+ends_alike shelf old new limits graph keys command e stops (Failed file) b h = record {
+  before = h.before;
+  name = h.name;
+  after = h.after;
+  stands = e ∙ h.stands;
+  rose = h.rose;
+  asked_for = h.asked_for;
+  is_bad = h.is_bad;
+  accepted = h.accepted;
+}
+ends_alike shelf old new limits graph keys command e stops (Refused refusal) b h = (
+  h.0,
+  told_more (shelf.held old) (λ files. IsRefused (Some (Matching graph keys)) files limits refusal) (λ files. IsRefused (Some command) files limits refusal)
+      (λ files r. refused_alike limits files graph keys command e refusal b r) h.1,
+  stops refusal h.2,
+)
+ends_alike shelf old new limits graph keys command e stops NoMemory b h = h
+ends_alike shelf old new limits graph keys command e stops (Done answer text) b h = absurd b
 
 -- a demo causes the run's ending
 pub demo_caused : {K : Type 0} (shelf : Shelf.Ghosts K) (at : K) (limits : Limits) (command : Option Wanted) (n : ℕ) → command ≡ Some (Demonstrating n) →

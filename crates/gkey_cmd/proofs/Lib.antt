@@ -6,3 +6,8 @@ mod Reports
 mod DemoCounts
 mod Derived
 mod Spelled
+mod OfFiles
+mod MergedOutput
+mod WholeWords
+mod Finding
+mod Reasons

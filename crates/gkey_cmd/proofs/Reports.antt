@@ -50,7 +50,7 @@ module _ (triples : List Triple) (keys : List KeyShape) (G : NumberedGraph) (nam
       P (graph_of (names_for triples keys) triples) (patterns_of (names_for triples keys) keys) (names_for triples keys)
   said P h = subst (λ ns. P (graph_of ns triples) (patterns_of ns keys) ns) are_names (subst (λ k. P (graph_of names triples) k names) are_patterns h)
 
-  same_of : SameLaw → (labels : List ℕ) → AreClasses G K labels → (a b : ℕ) → a < length names → b < length names →
+  pub same_of : SameLaw → (labels : List ℕ) → AreClasses G K labels → (a b : ℕ) → a < length names → b < length names →
       IsTrue (slice_index labels a == slice_index labels b) ↔ AreSame (graph_of names triples) K a b
   same_of law labels c a b la lb =
       let n = c.count ∙ has_names in

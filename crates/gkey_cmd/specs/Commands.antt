@@ -1,18 +1,20 @@
 -- The commands, and the words that ask for them (this project's own).
-use Rattle.std.specs.Prelude.{List, [], ◌∷◌, ℕ, zero, suc, ◌<◌, ◌≤◌, Option, Some, None, option_map, is_some, ◌&&◌, codes, bytes_eq, if◌then◌else◌, ◌≡◌}
+use Rattle.std.specs.Prelude.{List, [], ◌∷◌, ℕ, zero, suc, Bool, ◌<◌, ◌≤◌, Option, Some, None, option_map, is_some, ◌&&◌, codes, bytes_eq, if◌then◌else◌, ◌≡◌}
 use Rattle.std.specs.Fmt.{decimal}
 use Rattle.gkey_cmd.specs.declared.file.File.{File}
 use Rattle.gkey_cmd.specs.declared.file.File.TheVariants.{Graph, Keys, Proof}
 use Rattle.gkey_cmd.specs.declared.words.Command.{Command}
-use Rattle.gkey_cmd.specs.declared.words.Command.TheVariants.{Match, Prove, Check, Convert, Demo}
+use Rattle.gkey_cmd.specs.declared.words.Command.TheVariants.{Match, Prove, Check, Convert, Demo, Merge, Why}
 
--- a command with the names of its files, or with the number of a demo
+-- a command with the names of its files and the words for two entities, or with the number of a demo
 pub data Wanted : Type 0 where
   Matching : (graph keys : List ℕ) → Wanted
   Proving : (graph keys : List ℕ) → Wanted
   Checking : (graph keys proof : List ℕ) → Wanted
   Converting : (proof : List ℕ) → Wanted
   Demonstrating : (n : ℕ) → Wanted
+  Merging : (graph keys : List ℕ) → Wanted
+  Explaining : (graph keys first second : List ℕ) → Wanted
 
 -- the number from 1 to the most that a word is in decimal, without sign and without leading zero
 unfoldable pub number_to : (most : ℕ) (word : List ℕ) → Option ℕ
@@ -24,10 +26,15 @@ abbrev pub chase_of : (command graph keys : List ℕ) → Option Wanted
 chase_of command graph keys =
     if bytes_eq command (codes "match") then Some (Matching graph keys)
     else if bytes_eq command (codes "prove") then Some (Proving graph keys)
+    else if bytes_eq command (codes "merge") then Some (Merging graph keys)
     else None
 
--- the table of the accepted words: `match GRAPH KEYS` and `match --workers N GRAPH KEYS`, with `prove` in the same two ways,
--- `check GRAPH KEYS PROOF`, `convert PROOF` and `demo N`
+-- the words are an option for workers and a number of them
+abbrev pub are_workers : (option workers : List ℕ) → Bool
+are_workers option workers = bytes_eq option (codes "--workers") && is_some (number_to 64 workers)
+
+-- the table of the accepted words: `match GRAPH KEYS` and `match --workers N GRAPH KEYS`, with `prove` and `merge` in the same
+-- two ways, `check GRAPH KEYS PROOF`, `convert PROOF`, `demo N`, and `why GRAPH KEYS A B` and `why --workers N GRAPH KEYS A B`
 abbrev pub wanted : List (List ℕ) → Option Wanted
 wanted (command ∷ argument ∷ []) =
     if bytes_eq command (codes "convert") then Some (Converting argument)
@@ -35,8 +42,12 @@ wanted (command ∷ argument ∷ []) =
     else None
 wanted (command ∷ graph ∷ keys ∷ []) = chase_of command graph keys
 wanted (command ∷ graph ∷ keys ∷ proof ∷ []) = if bytes_eq command (codes "check") then Some (Checking graph keys proof) else None
-wanted (command ∷ option ∷ workers ∷ graph ∷ keys ∷ []) =
-    if bytes_eq option (codes "--workers") && is_some (number_to 64 workers) then chase_of command graph keys else None
+wanted (command ∷ a ∷ b ∷ c ∷ d ∷ []) =
+    if bytes_eq command (codes "why") then Some (Explaining a b c d)
+    else if are_workers a b then chase_of command c d
+    else None
+wanted (command ∷ option ∷ workers ∷ graph ∷ keys ∷ first ∷ second ∷ []) =
+    if bytes_eq command (codes "why") && are_workers option workers then Some (Explaining graph keys first second) else None
 wanted words = None
 
 -- the names that a demo's own two texts go by
@@ -53,10 +64,13 @@ files_of (Proving graph keys) = (Graph, graph) ∷ (Keys, keys) ∷ []
 files_of (Checking graph keys proof) = (Graph, graph) ∷ (Keys, keys) ∷ (Proof, proof) ∷ []
 files_of (Converting proof) = (Proof, proof) ∷ []
 files_of (Demonstrating n) = (Graph, demo_graph_name) ∷ (Keys, demo_keys_name) ∷ []
+files_of (Merging graph keys) = (Graph, graph) ∷ (Keys, keys) ∷ []
+files_of (Explaining graph keys first second) = (Graph, graph) ∷ (Keys, keys) ∷ []
 
 -- how many workers the words of a chase ask for: 4 where they name none
 abbrev pub workers_of : List (List ℕ) → Option ℕ
-workers_of (command ∷ option ∷ workers ∷ graph ∷ keys ∷ []) = number_to 64 workers
+workers_of (command ∷ a ∷ b ∷ c ∷ d ∷ []) = if bytes_eq command (codes "why") then Some 4 else number_to 64 b
+workers_of (command ∷ option ∷ workers ∷ graph ∷ keys ∷ first ∷ second ∷ []) = number_to 64 workers
 workers_of words = Some 4
 
 -- the words ask for this command, with so many workers, of which there are 1 to 64
@@ -73,6 +87,8 @@ IsChaseOf asked workers (Prove w graph keys) = (asked ≡ Some (Proving graph.no
 IsChaseOf asked workers (Check graph keys proof) = ⊥
 IsChaseOf asked workers (Convert proof) = ⊥
 IsChaseOf asked workers (Demo n) = ⊥
+IsChaseOf asked workers (Merge w graph keys) = (asked ≡ Some (Merging graph.now keys.now)) × (w ≡ workers)
+IsChaseOf asked workers (Why w graph keys first second) = ⊥
 
 -- the command for these words
 abbrev pub IsCommand : List (List ℕ) → Command → Type 0
@@ -81,3 +97,5 @@ IsCommand words (Prove workers graph keys) = IsChaseCommand words (Proving graph
 IsCommand words (Check graph keys proof) = wanted words ≡ Some (Checking graph.now keys.now proof.now)
 IsCommand words (Convert proof) = wanted words ≡ Some (Converting proof.now)
 IsCommand words (Demo n) = (wanted words ≡ Some (Demonstrating n)) × (0 < n) × (n ≤ 100000)
+IsCommand words (Merge workers graph keys) = IsChaseCommand words (Merging graph.now keys.now) workers
+IsCommand words (Why workers graph keys first second) = IsChaseCommand words (Explaining graph.now keys.now first.now second.now) workers

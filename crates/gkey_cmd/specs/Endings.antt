@@ -28,7 +28,7 @@ use Rattle.gkey_cmd.specs.Demo.{demo_files, files_for}
 use Rattle.gkey_cmd.specs.declared.file.File.{File}
 use Rattle.gkey_cmd.specs.declared.file.File.TheVariants.{Graph, Keys, Proof}
 use Rattle.gkey_cmd.specs.declared.ending.Refusal.{Refusal}
-use Rattle.gkey_cmd.specs.declared.ending.Refusal.TheVariants.{InGraph, InKeys, InProof, MorePairsThan}
+use Rattle.gkey_cmd.specs.declared.ending.Refusal.TheVariants.{InGraph, InKeys, InProof, NoSuchEntity, MorePairsThan}
 use Rattle.gkey_cmd.specs.declared.ending.Ending.{Ending}
 use Rattle.gkey_cmd.specs.declared.ending.Ending.TheVariants.{NoCommand, Failed, Refused, NoMemory, Done}
 
@@ -55,14 +55,17 @@ abbrev pub StopsAt : {K : Type 0} (shelf : Shelf.Ghosts K) (shelf_before shelf_a
 StopsAt shelf shelf_before shelf_after limits Graph name (InGraph refusal) = GraphStops shelf shelf_before shelf_after limits name
 StopsAt shelf shelf_before shelf_after limits Graph name (InKeys refusal) = ⊥
 StopsAt shelf shelf_before shelf_after limits Graph name (InProof refusal) = ⊥
+StopsAt shelf shelf_before shelf_after limits Graph name (NoSuchEntity asked) = ⊥
 StopsAt shelf shelf_before shelf_after limits Graph name (MorePairsThan limit) = ⊥
 StopsAt shelf shelf_before shelf_after limits Keys name (InGraph refusal) = ⊥
 StopsAt shelf shelf_before shelf_after limits Keys name (InKeys refusal) = KeysLeft shelf shelf_before shelf_after limits name
 StopsAt shelf shelf_before shelf_after limits Keys name (InProof refusal) = ⊥
+StopsAt shelf shelf_before shelf_after limits Keys name (NoSuchEntity asked) = ⊥
 StopsAt shelf shelf_before shelf_after limits Keys name (MorePairsThan limit) = ⊥
 StopsAt shelf shelf_before shelf_after limits Proof name (InGraph refusal) = ⊥
 StopsAt shelf shelf_before shelf_after limits Proof name (InKeys refusal) = ⊥
 StopsAt shelf shelf_before shelf_after limits Proof name (InProof refusal) = ProofLeft shelf shelf_before shelf_after limits name
+StopsAt shelf shelf_before shelf_after limits Proof name (NoSuchEntity asked) = ⊥
 StopsAt shelf shelf_before shelf_after limits Proof name (MorePairsThan limit) = ⊥
 
 -- this file was read under this name, and the run ends at it
@@ -102,13 +105,17 @@ DemoStops n limits (Refused refusal) = IsRefused (Some (Demonstrating n)) (demo_
 DemoStops n limits NoMemory = ⊤
 DemoStops n limits (Done answer text) = IsAnswered (Some (Demonstrating n)) (demo_files n) limits answer (vec_items text)
 
--- it is no answer
-abbrev pub HasNoAnswer : Ending → Type 0
-HasNoAnswer NoCommand = ⊤
-HasNoAnswer (Failed file) = ⊤
-HasNoAnswer (Refused refusal) = ⊤
-HasNoAnswer NoMemory = ⊤
-HasNoAnswer (Done answer text) = ⊥
+-- it comes before a chase: it is no answer, nor a refusal that comes after all files are accepted
+abbrev pub IsBeforeChase : Ending → Type 0
+IsBeforeChase NoCommand = ⊤
+IsBeforeChase (Failed file) = ⊤
+IsBeforeChase (Refused (InGraph refusal)) = ⊤
+IsBeforeChase (Refused (InKeys refusal)) = ⊤
+IsBeforeChase (Refused (InProof refusal)) = ⊤
+IsBeforeChase (Refused (NoSuchEntity asked)) = ⊥
+IsBeforeChase (Refused (MorePairsThan limit)) = ⊥
+IsBeforeChase NoMemory = ⊤
+IsBeforeChase (Done answer text) = ⊥
 
 -- how a run ends before anything is written
 abbrev pub Caused : {K : Type 0} (shelf : Shelf.Ghosts K) (shelf_before shelf_after : K) → Option Wanted → Limits → Ending → Type 0

@@ -4,9 +4,9 @@ use Rattle.gk_base.specs.declared.limits.Limits.{Limits}
 use Rattle.gk_io.specs.Files.{bytes_of}
 use Rattle.gk_io.specs.declared.shelf.Shelf
 use Rattle.graph_rows.specs.GraphFile.{GraphStops}
-use Rattle.gkey_cmd.specs.Commands.{Wanted, Matching, Proving, Checking, Converting, Demonstrating}
+use Rattle.gkey_cmd.specs.Commands.{Wanted, Matching, Proving, Checking, Converting, Demonstrating, Merging, Explaining}
 use Rattle.gkey_cmd.specs.declared.ending.Refusal.{Refusal}
-use Rattle.gkey_cmd.specs.declared.ending.Refusal.TheVariants.{InGraph, InKeys, InProof, MorePairsThan}
+use Rattle.gkey_cmd.specs.declared.ending.Refusal.TheVariants.{InGraph, InKeys, InProof, NoSuchEntity, MorePairsThan}
 
 -- of a file of these bytes this rest is unread, and no more is gone than the limit and one byte
 pub record IsReadWithin (limit : ℕ) (bytes rest : List ℕ) : Type 0 where
@@ -35,6 +35,8 @@ LeavesFiles shelf shelf_before shelf_after (Proving graph keys) limits = KeysLef
 LeavesFiles shelf shelf_before shelf_after (Checking graph keys proof) limits = ProofLeft shelf shelf_before shelf_after limits proof
 LeavesFiles shelf shelf_before shelf_after (Converting proof) limits = ProofLeft shelf shelf_before shelf_after limits proof
 LeavesFiles shelf shelf_before shelf_after (Demonstrating n) limits = shelf_after ≡ shelf_before
+LeavesFiles shelf shelf_before shelf_after (Merging graph keys) limits = KeysLeft shelf shelf_before shelf_after limits keys
+LeavesFiles shelf shelf_before shelf_after (Explaining graph keys first second) limits = KeysLeft shelf shelf_before shelf_after limits keys
 
 -- how far the files of a chase are read that is refused: a refused graph is left soon, and the key file is left where it, or
 -- what comes after it, is refused
@@ -42,6 +44,7 @@ abbrev pub ChaseStops : {K : Type 0} (shelf : Shelf.Ghosts K) (shelf_before shel
 ChaseStops shelf shelf_before shelf_after graph keys limits (InGraph refusal) = GraphStops shelf shelf_before shelf_after limits graph
 ChaseStops shelf shelf_before shelf_after graph keys limits (InKeys refusal) = KeysLeft shelf shelf_before shelf_after limits keys
 ChaseStops shelf shelf_before shelf_after graph keys limits (InProof refusal) = ⊥
+ChaseStops shelf shelf_before shelf_after graph keys limits (NoSuchEntity asked) = KeysLeft shelf shelf_before shelf_after limits keys
 ChaseStops shelf shelf_before shelf_after graph keys limits (MorePairsThan limit) = KeysLeft shelf shelf_before shelf_after limits keys
 
 -- how far the files of a run are read that is refused: a refused graph is left soon, and a key file or a proof file is left
@@ -53,9 +56,13 @@ StopsReading shelf shelf_before shelf_after (Some (Proving graph keys)) limits r
 StopsReading shelf shelf_before shelf_after (Some (Checking graph keys proof)) limits (InGraph refusal) = GraphStops shelf shelf_before shelf_after limits graph
 StopsReading shelf shelf_before shelf_after (Some (Checking graph keys proof)) limits (InKeys refusal) = KeysLeft shelf shelf_before shelf_after limits keys
 StopsReading shelf shelf_before shelf_after (Some (Checking graph keys proof)) limits (InProof refusal) = ProofLeft shelf shelf_before shelf_after limits proof
+StopsReading shelf shelf_before shelf_after (Some (Checking graph keys proof)) limits (NoSuchEntity asked) = ⊥
 StopsReading shelf shelf_before shelf_after (Some (Checking graph keys proof)) limits (MorePairsThan limit) = ⊥
 StopsReading shelf shelf_before shelf_after (Some (Converting proof)) limits (InGraph refusal) = ⊥
 StopsReading shelf shelf_before shelf_after (Some (Converting proof)) limits (InKeys refusal) = ⊥
 StopsReading shelf shelf_before shelf_after (Some (Converting proof)) limits (InProof refusal) = ProofLeft shelf shelf_before shelf_after limits proof
+StopsReading shelf shelf_before shelf_after (Some (Converting proof)) limits (NoSuchEntity asked) = ⊥
 StopsReading shelf shelf_before shelf_after (Some (Converting proof)) limits (MorePairsThan limit) = ⊥
 StopsReading shelf shelf_before shelf_after (Some (Demonstrating n)) limits refusal = shelf_after ≡ shelf_before
+StopsReading shelf shelf_before shelf_after (Some (Merging graph keys)) limits refusal = ChaseStops shelf shelf_before shelf_after graph keys limits refusal
+StopsReading shelf shelf_before shelf_after (Some (Explaining graph keys first second)) limits refusal = ChaseStops shelf shelf_before shelf_after graph keys limits refusal

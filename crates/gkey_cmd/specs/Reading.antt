@@ -14,7 +14,7 @@ use Rattle.proof_graph.specs.declared.fault.ProofRefusal.{ProofRefusal}
 use Rattle.gkey_cmd.specs.declared.file.File.{File}
 use Rattle.gkey_cmd.specs.declared.file.File.TheVariants.{Graph, Keys, Proof}
 use Rattle.gkey_cmd.specs.declared.ending.Refusal.{Refusal}
-use Rattle.gkey_cmd.specs.declared.ending.Refusal.TheVariants.{InGraph, InKeys, InProof, MorePairsThan}
+use Rattle.gkey_cmd.specs.declared.ending.Refusal.TheVariants.{InGraph, InKeys, InProof, NoSuchEntity, MorePairsThan}
 
 -- files by name, as a shelf tells them
 abbrev pub NamedFiles : Type 0
@@ -43,14 +43,17 @@ abbrev pub IsRefusedSo : Limits → NamedFiles → File → List ℕ → Refusal
 IsRefusedSo limits files Graph name (InGraph refusal) = GraphSays limits (bytes_of files name) (Err refusal)
 IsRefusedSo limits files Graph name (InKeys refusal) = ⊥
 IsRefusedSo limits files Graph name (InProof refusal) = ⊥
+IsRefusedSo limits files Graph name (NoSuchEntity asked) = ⊥
 IsRefusedSo limits files Graph name (MorePairsThan limit) = ⊥
 IsRefusedSo limits files Keys name (InGraph refusal) = ⊥
 IsRefusedSo limits files Keys name (InKeys refusal) = KeyFileSays limits (bytes_of files name) (Err refusal)
 IsRefusedSo limits files Keys name (InProof refusal) = ⊥
+IsRefusedSo limits files Keys name (NoSuchEntity asked) = ⊥
 IsRefusedSo limits files Keys name (MorePairsThan limit) = ⊥
 IsRefusedSo limits files Proof name (InGraph refusal) = ⊥
 IsRefusedSo limits files Proof name (InKeys refusal) = ⊥
 IsRefusedSo limits files Proof name (InProof refusal) = ProofFileSays limits (bytes_of files name) (Err refusal)
+IsRefusedSo limits files Proof name (NoSuchEntity asked) = ⊥
 IsRefusedSo limits files Proof name (MorePairsThan limit) = ⊥
 
 -- each of these files is accepted

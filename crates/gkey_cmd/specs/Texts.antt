@@ -6,12 +6,14 @@ use Rattle.key_lang.specs.Faults.{key_fault_text}
 use Rattle.proof_graph.specs.Faults.{proof_fault_text}
 use Rattle.gkey_cmd.specs.declared.file.File.{File}
 use Rattle.gkey_cmd.specs.declared.file.File.TheVariants.{Graph, Keys, Proof}
+use Rattle.gkey_cmd.specs.declared.ending.Asked.{Asked}
+use Rattle.gkey_cmd.specs.declared.ending.Asked.TheVariants.{First, Second}
 use Rattle.gkey_cmd.specs.declared.ending.Refusal.{Refusal}
-use Rattle.gkey_cmd.specs.declared.ending.Refusal.TheVariants.{InGraph, InKeys, InProof, MorePairsThan}
+use Rattle.gkey_cmd.specs.declared.ending.Refusal.TheVariants.{InGraph, InKeys, InProof, NoSuchEntity, MorePairsThan}
 
 -- the usage text
 abbrev pub usage : List ℕ
-usage = codes "usage:\n  gkey match [--workers N] GRAPH KEYS\n  gkey prove [--workers N] GRAPH KEYS\n  gkey check GRAPH KEYS PROOF\n  gkey convert PROOF\n  gkey demo N\n"
+usage = codes "usage:\n  gkey match [--workers N] GRAPH KEYS\n  gkey prove [--workers N] GRAPH KEYS\n  gkey check GRAPH KEYS PROOF\n  gkey convert PROOF\n  gkey demo N\n  gkey merge [--workers N] GRAPH KEYS\n  gkey why [--workers N] GRAPH KEYS A B\n"
 
 -- the texts of want of memory and of a failed write
 abbrev pub out_of_memory : List ℕ
@@ -38,9 +40,15 @@ line_text file line fault = file_text file ++ codes ":" ++ decimal line ++ codes
 abbrev pub pairs_text : ℕ → List ℕ
 pairs_text limit = codes "pairs: more than " ++ decimal limit ++ codes "\n"
 
+-- the text of a word that names no entity of the graph
+abbrev pub no_entity_text : Asked → List ℕ
+no_entity_text First = codes "first: no such entity\n"
+no_entity_text Second = codes "second: no such entity\n"
+
 -- the text of a refusal
 abbrev pub refused_text : Refusal → List ℕ
 refused_text (InGraph refusal) = line_text Graph refusal.line (read_text refusal.fault)
 refused_text (InKeys refusal) = line_text Keys refusal.line (key_fault_text refusal.fault)
 refused_text (InProof refusal) = line_text Proof refusal.line (proof_fault_text refusal.fault)
+refused_text (NoSuchEntity asked) = no_entity_text asked
 refused_text (MorePairsThan limit) = pairs_text limit

@@ -1,11 +1,11 @@
 -- What a run writes: the relation of its words, its files and its limits to its status, its output and its error text. The
 -- files are those that its command goes by.
-use Rattle.std.specs.Prelude.{List, [], ℕ, ◌≡◌, ◌⊎◌, ◌≤◌, ◌^◌, Option, Some, None, Ok}
+use Rattle.std.specs.Prelude.{List, [], ℕ, ◌≡◌, ◌⊎◌, ◌≤◌, ◌^◌, ⊤, Option, Some, None, Ok}
 use Rattle.gk_base.specs.declared.limits.Limits.{Limits}
 use Rattle.gk_base.specs.declared.term.Triple.{Triple}
 use Rattle.gk_io.specs.Files.{bytes_of}
 use Rattle.key_file.specs.KeyShape.{KeyShape}
-use Rattle.gkey_cmd.specs.Commands.{Wanted, Matching, Proving, Checking, Converting, Demonstrating, demo_graph_name, demo_keys_name, files_of}
+use Rattle.gkey_cmd.specs.Commands.{Wanted, Matching, Proving, Checking, Converting, Demonstrating, Merging, Explaining, demo_graph_name, demo_keys_name, files_of}
 use Rattle.gkey_cmd.specs.Texts.{usage, refused_text}
 use Rattle.gkey_cmd.specs.Reading.{NamedFiles, GraphSays, KeyFileSays, ProofFileSays, AllAccepted, FirstRefused}
 use Rattle.proof_graph.specs.Steps.{StepShape}
@@ -15,15 +15,21 @@ use Rattle.gkey_cmd.specs.Matched.{IsReport, HasTooManyPairs}
 use Rattle.gkey_cmd.specs.Proved.{IsProofText}
 use Rattle.gkey_cmd.specs.Checked.{verdict_answer, verdict_text}
 use Rattle.gkey_cmd.specs.Demo.{IsDemoText}
+use Rattle.gkey_cmd.specs.Merged.{IsMergedOutput}
+use Rattle.gkey_cmd.specs.Entities.{NamesOne}
+use Rattle.gkey_cmd.specs.Explained.{IsReason, SpellApart, not_the_same}
 use Rattle.gkey_cmd.specs.declared.ending.Answer.{Answer}
-use Rattle.gkey_cmd.specs.declared.ending.Answer.TheVariants.{Given, NotAccepted}
+use Rattle.gkey_cmd.specs.declared.ending.Answer.TheVariants.{Given, NotAccepted, NotTheSame}
+use Rattle.gkey_cmd.specs.declared.ending.Asked.{Asked}
+use Rattle.gkey_cmd.specs.declared.ending.Asked.TheVariants.{First, Second}
 use Rattle.gkey_cmd.specs.declared.ending.Refusal.{Refusal}
-use Rattle.gkey_cmd.specs.declared.ending.Refusal.TheVariants.{MorePairsThan}
+use Rattle.gkey_cmd.specs.declared.ending.Refusal.TheVariants.{InGraph, InKeys, InProof, NoSuchEntity, MorePairsThan}
 
 -- the status of an answer
 abbrev pub status_of : Answer → ℕ
 status_of Given = 0
 status_of NotAccepted = 1
+status_of NotTheSame = 1
 
 -- a status that stands for an answer
 abbrev pub IsAnswer : ℕ → Type 0
@@ -49,6 +55,32 @@ HasMorePairs limits files (Proving graph keys) = ChaseHasMorePairs limits files 
 HasMorePairs limits files (Checking graph keys proof) = ⊥
 HasMorePairs limits files (Converting proof) = ⊥
 HasMorePairs limits files (Demonstrating n) = ChaseHasMorePairs limits files demo_graph_name demo_keys_name
+HasMorePairs limits files (Merging graph keys) = ChaseHasMorePairs limits files graph keys
+HasMorePairs limits files (Explaining graph keys first second) = ChaseHasMorePairs limits files graph keys
+
+-- of the words for entities that a command has, this is the first that names none of its accepted graph
+abbrev pub LacksEntity : Limits → NamedFiles → Wanted → Asked → Type 0
+LacksEntity limits files (Matching graph keys) asked = ⊥
+LacksEntity limits files (Proving graph keys) asked = ⊥
+LacksEntity limits files (Checking graph keys proof) asked = ⊥
+LacksEntity limits files (Converting proof) asked = ⊥
+LacksEntity limits files (Demonstrating n) asked = ⊥
+LacksEntity limits files (Merging graph keys) asked = ⊥
+LacksEntity limits files (Explaining graph keys first second) First =
+    (triples : List Triple) × GraphSays limits (bytes_of files graph) (Ok triples) × ¬ (NamesOne triples first)
+LacksEntity limits files (Explaining graph keys first second) Second =
+    (triples : List Triple) × GraphSays limits (bytes_of files graph) (Ok triples) × NamesOne triples first × ¬ (NamesOne triples second)
+
+-- each word for an entity that a command has names one of its accepted graph
+abbrev pub HasEntities : Limits → NamedFiles → Wanted → Type 0
+HasEntities limits files (Matching graph keys) = ⊤
+HasEntities limits files (Proving graph keys) = ⊤
+HasEntities limits files (Checking graph keys proof) = ⊤
+HasEntities limits files (Converting proof) = ⊤
+HasEntities limits files (Demonstrating n) = ⊤
+HasEntities limits files (Merging graph keys) = ⊤
+HasEntities limits files (Explaining graph keys first second) =
+    (triples : List Triple) × GraphSays limits (bytes_of files graph) (Ok triples) × NamesOne triples first × NamesOne triples second
 
 -- the answer of a command whose files are accepted and lead to no more pairs than the limit, and its output
 abbrev pub Answers : Limits → NamedFiles → Wanted → Answer → List ℕ → Type 0
@@ -56,10 +88,12 @@ Answers limits files (Matching graph keys) Given output =
     (triples : List Triple) × (key_list : List KeyShape) × GraphSays limits (bytes_of files graph) (Ok triples)
     × KeyFileSays limits (bytes_of files keys) (Ok key_list) × IsReport triples key_list output
 Answers limits files (Matching graph keys) NotAccepted output = ⊥
+Answers limits files (Matching graph keys) NotTheSame output = ⊥
 Answers limits files (Proving graph keys) Given output =
     (triples : List Triple) × (key_list : List KeyShape) × GraphSays limits (bytes_of files graph) (Ok triples)
     × KeyFileSays limits (bytes_of files keys) (Ok key_list) × IsProofText triples key_list output
 Answers limits files (Proving graph keys) NotAccepted output = ⊥
+Answers limits files (Proving graph keys) NotTheSame output = ⊥
 Answers limits files (Checking graph keys proof) answer output =
     (triples : List Triple) × (key_list : List KeyShape) × (steps : List StepShape) × GraphSays limits (bytes_of files graph) (Ok triples)
     × KeyFileSays limits (bytes_of files keys) (Ok key_list) × ProofFileSays limits (bytes_of files proof) (Ok steps)
@@ -67,23 +101,47 @@ Answers limits files (Checking graph keys proof) answer output =
 Answers limits files (Converting proof) Given output =
     (steps : List StepShape) × ProofFileSays limits (bytes_of files proof) (Ok steps) × (output ≡ proof_text steps)
 Answers limits files (Converting proof) NotAccepted output = ⊥
+Answers limits files (Converting proof) NotTheSame output = ⊥
 Answers limits files (Demonstrating n) Given output =
     (triples : List Triple) × (key_list : List KeyShape) × GraphSays limits (bytes_of files demo_graph_name) (Ok triples)
     × KeyFileSays limits (bytes_of files demo_keys_name) (Ok key_list) × IsDemoText triples key_list output
 Answers limits files (Demonstrating n) NotAccepted output = ⊥
+Answers limits files (Demonstrating n) NotTheSame output = ⊥
+Answers limits files (Merging graph keys) Given output =
+    (triples : List Triple) × (key_list : List KeyShape) × GraphSays limits (bytes_of files graph) (Ok triples)
+    × KeyFileSays limits (bytes_of files keys) (Ok key_list) × IsMergedOutput triples key_list output
+Answers limits files (Merging graph keys) NotAccepted output = ⊥
+Answers limits files (Merging graph keys) NotTheSame output = ⊥
+Answers limits files (Explaining graph keys first second) Given output =
+    (triples : List Triple) × (key_list : List KeyShape) × GraphSays limits (bytes_of files graph) (Ok triples)
+    × KeyFileSays limits (bytes_of files keys) (Ok key_list) × IsReason triples key_list first second output
+Answers limits files (Explaining graph keys first second) NotAccepted output = ⊥
+Answers limits files (Explaining graph keys first second) NotTheSame output =
+    (triples : List Triple) × (key_list : List KeyShape) × GraphSays limits (bytes_of files graph) (Ok triples)
+    × KeyFileSays limits (bytes_of files keys) (Ok key_list) × SpellApart triples key_list first second × (output ≡ not_the_same)
 
--- The words ask for a command, and it is refused so: by the first of its files that is not accepted, or, where all are,
--- by too many pairs.
+-- A command whose files are all accepted is refused so: by the first of its words for entities that names none, or, where each
+-- names one, by too many pairs.
+abbrev pub IsRefusedAfter : Limits → NamedFiles → Wanted → Refusal → Type 0
+IsRefusedAfter limits files command (InGraph refusal) = ⊥
+IsRefusedAfter limits files command (InKeys refusal) = ⊥
+IsRefusedAfter limits files command (InProof refusal) = ⊥
+IsRefusedAfter limits files command (NoSuchEntity asked) = LacksEntity limits files command asked
+IsRefusedAfter limits files command (MorePairsThan limit) = HasEntities limits files command × HasMorePairs limits files command × (limit ≡ limits.pairs)
+
+-- the words ask for a command, and it is refused so: by the first of its files that is not accepted, or, where all are, by what
+-- comes after them
 abbrev pub IsRefused : Option Wanted → NamedFiles → Limits → Refusal → Type 0
 IsRefused None files limits refusal = ⊥
 IsRefused (Some command) files limits refusal =
     FirstRefused limits files (files_of command) refusal
-    ⊎ (AllAccepted limits files (files_of command) × HasMorePairs limits files command × (refusal ≡ MorePairsThan limits.pairs))
+    ⊎ (AllAccepted limits files (files_of command) × IsRefusedAfter limits files command refusal)
 
--- the words ask for a command, all its files are accepted, and they lead to no more pairs than the limit
+-- the words ask for a command, all its files are accepted, its words for entities name some, and the files lead to no more pairs
+-- than the limit
 abbrev pub AreAccepted : Option Wanted → NamedFiles → Limits → Type 0
 AreAccepted None files limits = ⊥
-AreAccepted (Some command) files limits = AllAccepted limits files (files_of command) × ¬ (HasMorePairs limits files command)
+AreAccepted (Some command) files limits = AllAccepted limits files (files_of command) × HasEntities limits files command × ¬ (HasMorePairs limits files command)
 
 -- the words ask for a command that is not refused, and it has this answer with this output
 abbrev pub IsAnswered : Option Wanted → NamedFiles → Limits → Answer → List ℕ → Type 0

@@ -7,7 +7,7 @@ ghost use Rattle.gkey_cmd.specs.Endings.{graph_ending, keys_ending, proof_ending
 
 use crate::file::File;
 use crate::texts::{
-    DONE, NO_COMMAND, NO_MEMORY, NOT_ACCEPTED, OUT_OF_MEMORY, REFUSED, UNREAD, UNWRITTEN, USAGE,
+    DONE, NO_COMMAND, NO_MEMORY, NOT_SO, OUT_OF_MEMORY, REFUSED, UNREAD, UNWRITTEN, USAGE,
     WRITE_FAILED, read_failed, refused_text,
 };
 use gk_base::{NoMemory, ReadRefusal, Stop};
@@ -23,6 +23,8 @@ pub enum Answer {
     Given,
     /// It looked at a proof, and does not accept it.
     NotAccepted,
+    /// It was asked why two entities are the same, and they are not.
+    NotTheSame,
 }
 
 impl Answer {
@@ -32,9 +34,19 @@ impl Answer {
     {
         match self {
             Answer::Given => DONE,
-            Answer::NotAccepted => NOT_ACCEPTED,
+            Answer::NotAccepted => NOT_SO,
+            Answer::NotTheSame => NOT_SO,
         }
     }
+}
+
+/// Which of the two words for entities.
+#[derive(Clone, Copy, Debug, PartialEq, Eq)]
+pub enum Asked {
+    /// The first.
+    First,
+    /// The second.
+    Second,
 }
 
 /// Why a command is refused that the words ask for.
@@ -46,6 +58,8 @@ pub enum Refusal {
     InKeys(KeyRefusal),
     /// The proof file, at this line.
     InProof(ProofRefusal),
+    /// This word spells no entity of the graph.
+    NoSuchEntity(Asked),
     /// There are more candidate pairs than this limit.
     MorePairsThan(u64),
 }

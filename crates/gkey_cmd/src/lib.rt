@@ -5,7 +5,8 @@
 //! - `words`: the commands and the words that ask for them
 //! - `file`: the files that a command reads
 //! - `order`: the order in which they are read, and what comes after the last
-//! - `matched`, `proved`, `checked`, `converted`, `counted`: what each command prints
+//! - `matched`, `proved`, `checked`, `converted`, `counted`, `merged`, `explained`: what each command prints
+//! - `entities`: which entity of the graph a word names
 //! - `ending`: how a run ends, and what it leaves
 //! - `texts`: each status with its meaning and the text for the error stream
 //! - `top`: `run`
@@ -15,8 +16,11 @@ mod checked;
 mod converted;
 mod counted;
 mod ending;
+mod entities;
+mod explained;
 mod file;
 mod matched;
+mod merged;
 mod order;
 mod proved;
 mod texts;

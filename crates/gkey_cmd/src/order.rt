@@ -2,20 +2,22 @@
 
 ghost use Rattle.std.specs.Prelude.{◌≡◌, ◌<◌, ◌≤◌, ◌^◌, Ok, length, IfOk, IfErr, OnOk, IfSome, MatchResult};
 ghost use Rattle.gk_io.specs.Files.{bytes_of};
-ghost use Rattle.gkey_cmd.specs.Commands.{Matching, Proving, Checking, Converting};
+ghost use Rattle.gkey_cmd.specs.Commands.{Matching, Proving, Checking, Converting, Merging, Explaining};
 ghost use Rattle.gkey_cmd.specs.Reading.{KeyFileSays, ProofFileSays};
 ghost use Rattle.gkey_cmd.specs.Written.{AreAtMostStandard};
 ghost use Rattle.gkey_cmd.specs.HowFar.{KeysLeft, ProofLeft};
 ghost use Rattle.graph_rows.specs.Rows.{AreFew};
 ghost use Rattle.gkey_cmd.specs.Demo.{demo_files};
-ghost use Rattle.gkey_cmd.specs.Endings.{EndsAt, Stopped, DemoStops, HasNoAnswer, ReadBoth};
+ghost use Rattle.gkey_cmd.specs.Endings.{EndsAt, Stopped, DemoStops, IsBeforeChase, ReadBoth};
 
 use crate::checked::check_files;
 use crate::converted::convert_file;
 use crate::counted::count_files;
 use crate::ending::{Answer, Ending};
+use crate::explained::explain_files;
 use crate::file::File;
 use crate::matched::match_files;
+use crate::merged::merge_files;
 use crate::proved::prove_files;
 use demo_graph::demo_texts;
 use gk_base::{Limits, NoMemory, Stop, Text};
@@ -92,7 +94,7 @@ fn read_graph_and_keys<S: Shelf>(
     ensures read { IfOk result (λ r. ReadBoth S.Shelf shelf.old shelf.new limits.now graph.now keys.now r.0 r.1) }
     ensures few { IfOk result (λ r. AreFew r.0) }
     ensures ends { IfErr result (Stopped S.Shelf shelf.old shelf.new (Matching graph.now keys.now) limits.now) }
-    ensures no_answer { IfErr result HasNoAnswer }
+    ensures before { IfErr result IsBeforeChase }
 {
     let rows = read_rows(alloc, shelf, graph, limits)?;
     let read = read_keys(alloc, shelf, keys, limits)?;
@@ -138,6 +140,59 @@ pub(crate) fn proved<Rt: Threads + Wait + Sync, S: Shelf, G: Gate>(
 {
     let (rows, read) = read_graph_and_keys(alloc, shelf, graph, keys, limits)?;
     prove_files(rt, alloc, rows, &read, limits.pairs, workers, gate)
+}
+
+/// The merged graph of `merge`, or the ending of a run that has none: the files come as for `match`, then the chase.
+pub(crate) fn merged<Rt: Threads + Wait + Sync, S: Shelf, G: Gate>(
+    rt: &Rt,
+    alloc: Global,
+    shelf: &mut S,
+    graph: &Text,
+    keys: &Text,
+    limits: &Limits,
+    workers: u32,
+    gate: &G,
+) -> Result<Vec<u8>, Ending>
+    requires limits { AreAtMostStandard limits.now }
+    requires workers { (0 < workers) × (workers ≤ 64) }
+    ensures { let Stops = Stopped S.Shelf shelf.old shelf.new (Merging graph.now keys.now) limits.now in
+        MatchResult result (λ text. Stops (Ending.Done Answer.Given text)) Stops }
+{
+    let (rows, read) = read_graph_and_keys(alloc, shelf, graph, keys, limits)?;
+    merge_files(rt, alloc, rows, &read, limits.pairs, workers, gate)
+}
+
+/// The answer of `why` and its text, or the ending of a run that has none: the files come as for `match`, then the words for
+/// the two entities, then the chase.
+pub(crate) fn explained<Rt: Threads + Wait + Sync, S: Shelf, G: Gate>(
+    rt: &Rt,
+    alloc: Global,
+    shelf: &mut S,
+    graph: &Text,
+    keys: &Text,
+    first: &Text,
+    second: &Text,
+    limits: &Limits,
+    workers: u32,
+    gate: &G,
+) -> Result<(Answer, Vec<u8>), Ending>
+    requires limits { AreAtMostStandard limits.now }
+    requires workers { (0 < workers) × (workers ≤ 64) }
+    ensures { let Stops = Stopped S.Shelf shelf.old shelf.new (Explaining graph.now keys.now first.now second.now) limits.now in
+        MatchResult result (λ r. Stops (Ending.Done r.0 r.1)) Stops }
+{
+    let (rows, read) = read_graph_and_keys(alloc, shelf, graph, keys, limits)?;
+    explain_files(
+        rt,
+        alloc,
+        rows,
+        &read,
+        first,
+        second,
+        limits.pairs,
+        workers,
+        gate,
+    )
 }
 
 /// A demo's own two texts, as files.

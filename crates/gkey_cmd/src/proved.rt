@@ -28,7 +28,7 @@ use steal_pool::Gate;
 use term_table::Names;
 
 /// The names of keys, in their order.
-fn key_names(alloc: Global, keys: &[KeyDef]) -> Result<Vec<Text>, NoMemory>
+pub(crate) fn key_names(alloc: Global, keys: &[KeyDef]) -> Result<Vec<Text>, NoMemory>
     ensures { IfOk result (λ names. names.items ≡ map (λ (k : KeyShape). k.name) keys.now) }
 {
     let mut names = Vec::with_capacity(alloc, keys.len())?;

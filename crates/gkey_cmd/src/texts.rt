@@ -3,9 +3,9 @@
 //! and what is wrong with a step of a proof by the reason, in `proof_check`.
 
 ghost use Rattle.std.specs.Prelude.{◌≡◌, IfOk};
-ghost use Rattle.gkey_cmd.specs.Texts.{file_text, read_failed, line_text, pairs_text, refused_text};
+ghost use Rattle.gkey_cmd.specs.Texts.{file_text, read_failed, line_text, no_entity_text, pairs_text, refused_text};
 
-use crate::ending::Refusal;
+use crate::ending::{Asked, Refusal};
 use crate::file::File;
 use gk_base::NoMemory;
 use std::alloc::Global;
@@ -13,8 +13,9 @@ use std::alloc::Global;
 /// The command did what it is for. Its answer goes to the output, and the error stream gets no text.
 pub(crate) const DONE: u8 = 0;
 
-/// The proof is not accepted. That answer goes to the output, and the error stream gets no text.
-pub(crate) const NOT_ACCEPTED: u8 = 1;
+/// What was asked about is not so: the proof is not accepted, or the two entities are not the same. That answer goes to the
+/// output, and the error stream gets no text.
+pub(crate) const NOT_SO: u8 = 1;
 
 /// An input is refused. The text, `refused_text`, says which and why.
 pub(crate) const REFUSED: u8 = 2;
@@ -42,7 +43,7 @@ pub(crate) const NO_COMMAND: u8 = 64;
 
 /// The text of `NO_COMMAND`.
 pub(crate) const USAGE: &[u8] =
-    b"usage:\n  gkey match [--workers N] GRAPH KEYS\n  gkey prove [--workers N] GRAPH KEYS\n  gkey check GRAPH KEYS PROOF\n  gkey convert PROOF\n  gkey demo N\n";
+    b"usage:\n  gkey match [--workers N] GRAPH KEYS\n  gkey prove [--workers N] GRAPH KEYS\n  gkey check GRAPH KEYS PROOF\n  gkey convert PROOF\n  gkey demo N\n  gkey merge [--workers N] GRAPH KEYS\n  gkey why [--workers N] GRAPH KEYS A B\n";
 
 /// What a text calls a file.
 fn file_text(file: File) -> &'static [u8]
@@ -79,6 +80,16 @@ fn line_text(alloc: Global, file: File, line: u64, fault: &[u8]) -> Result<Vec<u
     Ok(text)
 }
 
+/// The text of a word that names no entity of the graph.
+fn no_entity_text(asked: Asked) -> &'static [u8]
+    ensures { result.now ≡ no_entity_text asked }
+{
+    match asked {
+        Asked::First => b"first: no such entity\n",
+        Asked::Second => b"second: no such entity\n",
+    }
+}
+
 /// The text of more candidate pairs than the limit.
 fn pairs_text(alloc: Global, limit: u64) -> Result<Vec<u8>, NoMemory>
     ensures { IfOk result (λ text. text.items ≡ pairs_text limit) }
@@ -97,6 +108,7 @@ pub(crate) fn refused_text(alloc: Global, refusal: Refusal) -> Result<Vec<u8>, N
         Refusal::InGraph(at) => line_text(alloc, File::Graph, at.line, at.fault.text()),
         Refusal::InKeys(at) => line_text(alloc, File::Keys, at.line, at.fault.text()),
         Refusal::InProof(at) => line_text(alloc, File::Proof, at.line, at.fault.text()),
+        Refusal::NoSuchEntity(asked) => Ok(no_entity_text(asked).to_vec(alloc)?),
         Refusal::MorePairsThan(limit) => pairs_text(alloc, limit),
     }
 }

@@ -7,7 +7,7 @@ ghost use Rattle.gkey_cmd.specs.Endings.{Caused, LeavesShelf};
 ghost use Rattle.gkey_cmd.specs.Run.{IsRun};
 
 use crate::ending::{Answer, Ending, finish};
-use crate::order::{checked, converted, demonstrated, matched, proved};
+use crate::order::{checked, converted, demonstrated, explained, matched, merged, proved};
 use crate::words::{Command, WORKERS, read_words};
 use gk_base::{Limits, Text};
 use gk_io::{Shelf, Sink};
@@ -70,6 +70,24 @@ fn decide<Rt: Threads + Wait + Sync, S: Shelf, G: Gate>(
         }
         Some(Command::Convert { proof }) => given(converted(alloc, shelf, proof, limits)),
         Some(Command::Demo { n }) => given(demonstrated(rt, alloc, n, limits, WORKERS, gate)),
+        Some(
+            Command::Merge {
+                workers,
+                graph,
+                keys,
+            },
+        ) => given(merged(rt, alloc, shelf, graph, keys, limits, workers, gate)),
+        Some(
+            Command::Why {
+                workers,
+                graph,
+                keys,
+                first,
+                second,
+            },
+        ) => answered(explained(
+            rt, alloc, shelf, graph, keys, first, second, limits, workers, gate,
+        )),
     }
 }
 
@@ -97,7 +115,7 @@ pub fn run_gated<Rt: Threads + Wait + Sync, S: Shelf, O: Sink, E: Sink, G: Gate>
 }
 
 /// Does all that the program does, with its own limits, and gives the status: 0 where it is done, 1 where a proof is not
-/// accepted, 2 where an input is refused, 3 where a file could not be read, 4 where the output could not be written, 5 for
+/// accepted or two entities are not the same, 2 where an input is refused, 3 where a file could not be read, 4 where the output could not be written, 5 for
 /// want of memory, 64 where the words ask for no command. What it leaves at each status, and why, is `IsRun` in
 /// `specs/Run.antt`.
 ///

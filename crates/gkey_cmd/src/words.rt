@@ -15,7 +15,7 @@ const MOST_WORKERS: u32 = 64;
 /// The largest number that a demo has.
 const MOST_PAIRS: u32 = 100_000;
 
-/// What a run is to do, with the names of its files.
+/// What a run is to do, with the names of its files and the words for entities.
 #[derive(Clone, Copy)]
 pub enum Command<'w> {
     /// Print the classes of equal entities.
@@ -46,6 +46,24 @@ pub enum Command<'w> {
     Demo {
         /// How many pairs of entities the graph has: 1 to 100,000.
         n: u32,
+    },
+    /// Print the graph in which each entity stands as the first member of its class.
+    Merge {
+        /// How many workers search: 1 to 64.
+        workers: u32,
+        graph: &'w Text,
+        keys: &'w Text,
+    },
+    /// Print a proof that two entities are the same, or that they are not.
+    Why {
+        /// How many workers search: 1 to 64.
+        workers: u32,
+        graph: &'w Text,
+        keys: &'w Text,
+        /// The word for the one entity.
+        first: &'w Text,
+        /// The word for the other.
+        second: &'w Text,
     },
 }
 
@@ -80,6 +98,12 @@ fn chase_command<'w>(
             graph,
             keys,
         })
+    } else if name.bytes() == b"merge".as_slice() {
+        Some(Command::Merge {
+            workers,
+            graph,
+            keys,
+        })
     } else {
         None
     }
@@ -92,10 +116,30 @@ pub fn read_words<'w>(words: &'w [Text]) -> Option<Command<'w>>
 {
     match words {
         [command, graph, keys] => chase_command(command, WORKERS, graph, keys),
+        [command, graph, keys, first, second] if command.bytes() == b"why".as_slice() => {
+            Some(Command::Why {
+                workers: WORKERS,
+                graph,
+                keys,
+                first,
+                second,
+            })
+        }
         [command, option, workers, graph, keys] if option.bytes() == b"--workers".as_slice() => {
             let workers = number_to(workers, MOST_WORKERS)?;
             chase_command(command, workers, graph, keys)
         }
+        [command, option, workers, graph, keys, first, second]
+            if command.bytes() == b"why".as_slice() && option.bytes() == b"--workers".as_slice() =>
+            {
+                Some(Command::Why {
+                    workers: number_to(workers, MOST_WORKERS)?,
+                    graph,
+                    keys,
+                    first,
+                    second,
+                })
+            }
         [command, graph, keys, proof] if command.bytes() == b"check".as_slice() => {
             Some(Command::Check { graph, keys, proof })
         }

@@ -1,7 +1,7 @@
 //! The merged graph: each entity stands as the first member of its class, so that a graph with what a match found is a
 //! graph again. The subject and the object of each row are replaced by the member of their class whose canonical text is
 //! least by bytes, their face, and the predicate stays. The triples are printed by their canonical texts, each once,
-//! ascending by bytes; `nt_reader` reads them back as they are. No command calls this crate yet.
+//! ascending by bytes; `nt_reader` reads them back as they are.
 //!
 //! - `merging`: the merged graph's text, from rows and labels
 //! - `faces`: for each name its face

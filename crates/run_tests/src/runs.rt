@@ -311,7 +311,7 @@ fn other_words_ask_for_no_command(rt: HostRuntime) -> Result<(), Fail> {
             words,
             status: 64,
             out: b"",
-            err: "usage:\n  gkey match [--workers N] GRAPH KEYS\n  gkey prove [--workers N] GRAPH KEYS\n  gkey check GRAPH KEYS PROOF\n  gkey convert PROOF\n  gkey demo N\n",
+            err: "usage:\n  gkey match [--workers N] GRAPH KEYS\n  gkey prove [--workers N] GRAPH KEYS\n  gkey check GRAPH KEYS PROOF\n  gkey convert PROOF\n  gkey demo N\n  gkey merge [--workers N] GRAPH KEYS\n  gkey why [--workers N] GRAPH KEYS A B\n",
             ..GOOD
         };
         assert!(rt; holds(&rt, &case)?, "row {row}");

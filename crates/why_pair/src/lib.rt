@@ -1,6 +1,5 @@
 //! Why two names are the same: a proof for one pair, with only the steps that this pair needs. The journal of a chase says how
-//! all pairs came to be the same; what leads from the one name to the other is picked from it, with what that rests on. No
-//! command calls this crate yet.
+//! all pairs came to be the same; what leads from the one name to the other is picked from it, with what that rests on.
 //!
 //! - `answer`: a proof and its steps that lead from name to name
 //! - `asking`: the answer for two names

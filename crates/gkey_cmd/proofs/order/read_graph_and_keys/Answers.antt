@@ -6,7 +6,7 @@ use Rattle.graph_rows.proofs.CallerLemmas.{told_more}
 use Rattle.gkey_cmd.specs.Commands.{Matching}
 use Rattle.gkey_cmd.specs.Reading.{GraphSays, KeyFileSays, IsAccepted}
 use Rattle.gkey_cmd.specs.declared.file.File.TheVariants.{Graph, Keys}
-use Rattle.gkey_cmd.proofs.Deciding.{read_none, read_next, file_left_first, stopped, graph_ends, no_answer_at, stops_at_graph, stops_at_keys}
+use Rattle.gkey_cmd.proofs.Deciding.{read_none, read_next, file_left_first, stopped, graph_ends, before_chase, stops_at_graph, stops_at_keys}
 use Rattle.gkey_cmd.proofs.order.read_graph_and_keys.Goals as goal
 
 pub returns-in_err-rows-clause-ends : goal.returns-in_err-rows-clause-ends
@@ -20,12 +20,12 @@ returns-in_err-rows-clause-ends g c =
     (stops_at_graph g.S.Shelf a.shelf.now c.read_rows.new.shelf a.limits.now a.graph.now a.keys.now []) _
     (graph_ends g.S.Shelf a.shelf.now c.read_rows.new.shelf a.limits.now a.graph.now c.in_err-rows.field-0.0 c.in_err-rows.ensures.gives))
 
-pub returns-in_err-rows-clause-no_answer : goal.returns-in_err-rows-clause-no_answer
-returns-in_err-rows-clause-no_answer g c =
+pub returns-in_err-rows-clause-before : goal.returns-in_err-rows-clause-before
+returns-in_err-rows-clause-before g c =
     let a = c.args in
     let k = c.from_residual in
     let p = err_from_is_err_and k.result k.ensures.1 in
-    rw (p.1, p.2) (no_answer_at g.S.Shelf a.shelf.now c.read_rows.new.shelf a.limits.now Graph a.graph.now _
+    rw (p.1, p.2) (before_chase g.S.Shelf a.shelf.now c.read_rows.new.shelf a.limits.now Graph a.graph.now _
     (graph_ends g.S.Shelf a.shelf.now c.read_rows.new.shelf a.limits.now a.graph.now c.in_err-rows.field-0.0 c.in_err-rows.ensures.gives))
 
 pub returns-in_err-read-clause-ends : goal.returns-in_err-read-clause-ends
@@ -43,12 +43,12 @@ returns-in_err-read-clause-ends g c =
     (Matching a.graph.now a.keys.now) [] refl
     (stops_at_keys g.S.Shelf a.shelf.now c.read_keys.new.shelf a.limits.now a.graph.now a.keys.now []) c.in_err-read.field-0.0 c.in_err-read.ensures.ends)
 
-pub returns-in_err-read-clause-no_answer : goal.returns-in_err-read-clause-no_answer
-returns-in_err-read-clause-no_answer g c =
+pub returns-in_err-read-clause-before : goal.returns-in_err-read-clause-before
+returns-in_err-read-clause-before g c =
     let a = c.args in
     let k = c.from_residual-in_err-read in
     let p = err_from_is_err_and k.result k.ensures.1 in
-    rw (p.1, p.2) (no_answer_at g.S.Shelf c.read_rows.new.shelf c.read_keys.new.shelf a.limits.now Keys a.keys.now c.in_err-read.field-0.0 c.in_err-read.ensures.ends)
+    rw (p.1, p.2) (before_chase g.S.Shelf c.read_rows.new.shelf c.read_keys.new.shelf a.limits.now Keys a.keys.now c.in_err-read.field-0.0 c.in_err-read.ensures.ends)
 
 pub returns-clause-read : goal.returns-clause-read
 returns-clause-read g c =

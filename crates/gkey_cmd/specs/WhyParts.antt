@@ -1,0 +1,61 @@
+-- What `why` finds on its way, in numbers: this project's own words.
+use Rattle.std.specs.Prelude.{List, ℕ, true, All, Some, Result, Ok, Err, length, slice_get, ◌≡◌, ◌≤◌, ⊤}
+use Rattle.gk_base.specs.declared.term.Term.{Term}
+use Rattle.chase_laws.specs.declared.entry.Entry.{Entry}
+use Rattle.chase_laws.specs.Shape.{Shape}
+use Rattle.chase_laws.specs.Graph.{NumberedGraph, IsEntity}
+use Rattle.chase_laws.specs.Chase.{IsDerivation, AreSame}
+use Rattle.nt_lex.specs.Spelling.{Spells}
+use Rattle.key_file.specs.Name.{is_name}
+use Rattle.term_text.specs.ReadBack.{CanBeSpelled}
+use Rattle.proof_graph.specs.Steps.{StepShape, term_at}
+use Rattle.proof_graph.specs.Tells.{TellsAll}
+use Rattle.proof_graph.specs.ProofText.{ProofSays}
+use Rattle.proof_graph.specs.CanonicalProof.{proof_text}
+use Rattle.why_pair.specs.Why.{StepsLead, NoneTwice, NoneTwiceInSupports, AllReached}
+use Rattle.gkey_cmd.specs.declared.ending.Asked.TheVariants.{First, Second}
+use Rattle.gkey_cmd.specs.declared.ending.Refusal.TheVariants.{InGraph, InKeys, InProof, NoSuchEntity, MorePairsThan}
+use Rattle.gkey_cmd.specs.declared.ending.Ending.{Ending}
+use Rattle.gkey_cmd.specs.declared.ending.Ending.TheVariants.{NoCommand, Failed, Refused, NoMemory, Done}
+
+-- the whole word spells the name that has this number, and it is an entity of the graph
+pub record SpellsNumber (G : NumberedGraph) (names : List Term) (word : List ℕ) (n : ℕ) : Type 0 where
+  pub term : Term
+  pub spells : Spells word term
+  pub name : slice_get names n ≡ Some term
+  pub entity : IsEntity G n
+
+-- the word spells the number of no entity
+abbrev pub SpellsNoNumber : NumberedGraph → List Term → List ℕ → Type 0
+SpellsNoNumber G names word = (n : ℕ) → ¬ (SpellsNumber G names word n)
+
+-- Two words spell the numbers of entities, or the first of them that spells none is told, or memory is wanting.
+abbrev pub SpellTwo : NumberedGraph → List Term → (first second : List ℕ) → Result (ℕ × ℕ) Ending → Type 0
+SpellTwo G names first second (Ok r) = SpellsNumber G names first r.0 × SpellsNumber G names second r.1
+SpellTwo G names first second (Err (Refused (InGraph refusal))) = ⊥
+SpellTwo G names first second (Err (Refused (InKeys refusal))) = ⊥
+SpellTwo G names first second (Err (Refused (InProof refusal))) = ⊥
+SpellTwo G names first second (Err (Refused (NoSuchEntity First))) = SpellsNoNumber G names first
+SpellTwo G names first second (Err (Refused (NoSuchEntity Second))) = ((n : ℕ) × SpellsNumber G names first n) × SpellsNoNumber G names second
+SpellTwo G names first second (Err (Refused (MorePairsThan most))) = ⊥
+SpellTwo G names first second (Err NoMemory) = ⊤
+SpellTwo G names first second (Err NoCommand) = ⊥
+SpellTwo G names first second (Err (Failed file)) = ⊥
+SpellTwo G names first second (Err (Done answer text)) = ⊥
+
+-- Two names are the same, and the text is that of a proof for them: its steps tell the entries of a derivation, each of them is
+-- reached from the goal, and the goal's lead from the one name to the other. Where names and keys can be written, it is read as
+-- these steps.
+pub record TellsPair (G : NumberedGraph) (K : List Shape) (names : List Term) (key_names : List (List ℕ)) (a b : ℕ) (text : List ℕ) : Type 0 where
+  pub same : AreSame G K a b
+  pub entries : List Entry
+  pub steps : List StepShape
+  pub goal : List ℕ
+  pub derivation : IsDerivation G K entries
+  pub tells : TellsAll names K key_names entries steps
+  pub leads : StepsLead steps goal (term_at names a) (term_at names b)
+  pub once : NoneTwice goal
+  pub supports_once : NoneTwiceInSupports steps
+  pub reached : AllReached steps goal
+  pub written : text ≡ proof_text steps
+  pub reads : All CanBeSpelled names → All (λ name. is_name name ≡ true) key_names → (limit : ℕ) → length text ≤ limit → ProofSays limit text (Ok steps)
