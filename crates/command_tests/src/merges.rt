@@ -1,0 +1,147 @@
+//! Merged graphs.
+
+use crate::runs::{Case, FOUR_ALBUMS, MERGE, holds, printed};
+use fixtures::texts::{ALBUM_AND_ARTIST_KEYS, ALBUM_KEY, ALBUMS};
+use gk_base::Limits;
+use std::test::Fail;
+
+/// The four albums and two artists, of which each two are the same.
+const FOUR_ALBUMS_MERGED: &str = "\
+<urn:al1> <http://www.w3.org/1999/02/22-rdf-syntax-ns#type> <urn:Album> .
+<urn:al1> <urn:by> <urn:ar1> .
+<urn:al1> <urn:name> \"Anthology 2\" .
+<urn:al1> <urn:year> \"1996\" .
+<urn:al3> <http://www.w3.org/1999/02/22-rdf-syntax-ns#type> <urn:Album> .
+<urn:al3> <urn:by> <urn:ar1> .
+<urn:al3> <urn:name> \"Help!\" .
+<urn:ar1> <http://www.w3.org/1999/02/22-rdf-syntax-ns#type> <urn:Artist> .
+<urn:ar1> <urn:name> \"The Beatles\" .
+";
+
+/// The two albums, sorted.
+const ALBUMS_SORTED: &str = "\
+<urn:al1> <http://www.w3.org/1999/02/22-rdf-syntax-ns#type> <urn:Album> .
+<urn:al1> <urn:name> \"Anthology 2\" .
+<urn:al1> <urn:year> \"1996\" .
+<urn:al2> <http://www.w3.org/1999/02/22-rdf-syntax-ns#type> <urn:Album> .
+<urn:al2> <urn:name> \"Anthology 2\" .
+<urn:al2> <urn:year> \"1996\" .
+";
+
+/// An IRI and two blank nodes that are the same.
+const BLANK_NODES: &[u8] = b"\
+_:b.1 <http://www.w3.org/1999/02/22-rdf-syntax-ns#type> <urn:T> .
+_::x <http://www.w3.org/1999/02/22-rdf-syntax-ns#type> <urn:T> .
+<urn:z> <http://www.w3.org/1999/02/22-rdf-syntax-ns#type> <urn:T> .
+_:b.1 <urn:p> \"1\" .
+_::x <urn:p> \"1\" .
+<urn:z> <urn:p> \"1\" .
+";
+
+/// A key of one value.
+const ONE_VALUE: &[u8] = b"key k <urn:T>\nvalue $v\n?x <urn:p> $v\nend\n";
+
+const BLANK_NODES_MERGED: &str = "\
+<urn:z> <http://www.w3.org/1999/02/22-rdf-syntax-ns#type> <urn:T> .
+<urn:z> <urn:p> \"1\" .
+";
+
+#[test]
+fn entities_stand_as_the_first_of_their_class(rt: HostRuntime) -> Result<(), Fail> {
+    let merged: [(&[u8], &[u8], &str); 5] = [
+        (ALBUMS, ALBUM_KEY, MERGE.out),
+        (b"", ALBUM_KEY, ""),
+        (ALBUMS, b"", ALBUMS_SORTED),
+        (FOUR_ALBUMS, ALBUM_AND_ARTIST_KEYS, FOUR_ALBUMS_MERGED),
+        (BLANK_NODES, ONE_VALUE, BLANK_NODES_MERGED),
+    ];
+    for (row, (graph, keys, out)) in merged.into_iter().enumerate() {
+        let case = Case {
+            graph,
+            keys,
+            out,
+            ..MERGE
+        };
+        assert!(rt; holds(&rt, &case)?, "row {row}");
+    }
+    Ok(())
+}
+
+#[test]
+fn merged_graphs_are_the_same_with_any_workers(rt: HostRuntime) -> Result<(), Fail> {
+    for workers in ["1", "3", "64"] {
+        let case = Case {
+            words: &["merge", "--workers", workers, "g", "k"],
+            graph: FOUR_ALBUMS,
+            keys: ALBUM_AND_ARTIST_KEYS,
+            out: FOUR_ALBUMS_MERGED,
+            ..MERGE
+        };
+        assert!(rt; holds(&rt, &case)?, "{workers} workers");
+    }
+    Ok(())
+}
+
+#[test]
+fn a_merged_graph_is_matched_as_any_other(rt: HostRuntime) -> Result<(), Fail> {
+    let merging = Case {
+        graph: FOUR_ALBUMS,
+        keys: ALBUM_AND_ARTIST_KEYS,
+        ..MERGE
+    };
+    let merged = printed(&rt, &merging)?.ok_or("no merged graph")?;
+    let matching = Case {
+        words: &["match", "g", "k"],
+        graph: &merged,
+        out: "",
+        ..merging
+    };
+    assert!(rt; holds(&rt, &matching)?);
+    let again = Case {
+        graph: &merged,
+        out: FOUR_ALBUMS_MERGED,
+        ..merging
+    };
+    assert!(rt; holds(&rt, &again)?);
+    Ok(())
+}
+
+#[test]
+fn merges_are_refused_as_matches_are(rt: HostRuntime) -> Result<(), Fail> {
+    let refused = Case {
+        status: 2,
+        out: "",
+        ..MERGE
+    };
+    let bad_graph = Case {
+        graph: b"<urn:a> <urn:p> .\n",
+        err: "graph:1: object expected\n",
+        ..refused
+    };
+    let bad_keys = Case {
+        keys: b"end\n",
+        err: "keys:1: statement out of place\n",
+        ..refused
+    };
+    let few_pairs = Case {
+        limits: Limits {
+            pairs: 0,
+            ..Limits::STANDARD
+        },
+        err: "pairs: more than 0\n",
+        ..refused
+    };
+    let missing = Case {
+        words: &["merge", "none", "k"],
+        status: 3,
+        err: "graph: read failed\n",
+        ..refused
+    };
+    for (row, case) in [bad_graph, bad_keys, few_pairs, missing]
+        .into_iter()
+        .enumerate()
+    {
+        assert!(rt; holds(&rt, &case)?, "row {row}");
+    }
+    Ok(())
+}

@@ -1,0 +1,320 @@
+//! Proofs for two entities, and why there is none.
+
+use crate::runs::{Case, FOUR_ALBUMS, MERGE, holds, leaves, printed};
+use fixtures::texts::{ALBUM_AND_ARTIST_KEYS, ALBUM_KEY};
+use gk_base::{Limits, Text};
+use std::sync::Wait;
+use std::test::Fail;
+use std::thread::Threads;
+
+/// The proof that two albums with one name and one year are the same.
+const ALBUM_PROOF: &str = "\
+gkey-proof 2
+terms 4
+<urn:al1>
+\"Anthology 2\"
+\"1996\"
+<urn:al2>
+step album_year
+left 1 2 3
+right 4 2 3
+done
+end 1
+";
+
+/// The proof of nothing.
+const NO_STEPS: &str = "gkey-proof 2\nterms 0\nend 0\n";
+
+const NOT_THE_SAME: &str = "not the same\n";
+
+const NO_FIRST: &str = "first: no such entity\n";
+
+const NO_SECOND: &str = "second: no such entity\n";
+
+/// Why two of the two albums are the same.
+const WHY: Case<'static> = Case {
+    words: &["why", "g", "k", "<urn:al1>", "<urn:al2>"],
+    out: ALBUM_PROOF,
+    ..MERGE
+};
+
+/// Two words, and what they lead to.
+#[derive(Clone, Copy)]
+struct Row {
+    first: &'static str,
+    second: &'static str,
+    status: u8,
+    out: &'static str,
+    err: &'static str,
+}
+
+/// Two words for one entity.
+const SAME: Row = Row {
+    first: "<urn:al1>",
+    second: "<urn:al1>",
+    status: 0,
+    out: NO_STEPS,
+    err: "",
+};
+
+/// Two words of which one names no entity.
+const NONE: Row = Row {
+    status: 2,
+    out: "",
+    ..SAME
+};
+
+/// Rows over the two albums.
+static ROWS: [Row; 17] = [
+    SAME,
+    Row {
+        second: "<urn:\\u0061l1>",
+        ..SAME
+    },
+    Row {
+        first: "<urn:Album>",
+        second: "<urn:Album>",
+        ..SAME
+    },
+    Row {
+        second: "<urn:al2>",
+        out: ALBUM_PROOF,
+        ..SAME
+    },
+    Row {
+        first: "<urn:\\u0061l1>",
+        second: "<urn:al\\U00000032>",
+        out: ALBUM_PROOF,
+        ..SAME
+    },
+    Row {
+        second: "<urn:Album>",
+        status: 1,
+        out: NOT_THE_SAME,
+        ..SAME
+    },
+    Row {
+        second: "<urn:zz>",
+        err: NO_SECOND,
+        ..NONE
+    },
+    Row {
+        first: "al1",
+        second: "<urn:zz>",
+        err: NO_FIRST,
+        ..NONE
+    },
+    Row {
+        first: "",
+        err: NO_FIRST,
+        ..NONE
+    },
+    Row {
+        second: "\"Anthology 2\"",
+        err: NO_SECOND,
+        ..NONE
+    },
+    Row {
+        first: "<urn:name>",
+        err: NO_FIRST,
+        ..NONE
+    },
+    Row {
+        second: "<urn:Artist>",
+        err: NO_SECOND,
+        ..NONE
+    },
+    Row {
+        second: "<urn:al2> ",
+        err: NO_SECOND,
+        ..NONE
+    },
+    Row {
+        first: " <urn:al1>",
+        err: NO_FIRST,
+        ..NONE
+    },
+    Row {
+        second: "<urn:al2>.",
+        err: NO_SECOND,
+        ..NONE
+    },
+    Row {
+        second: "_:al2",
+        err: NO_SECOND,
+        ..NONE
+    },
+    Row {
+        second: "<urn:al2",
+        err: NO_SECOND,
+        ..NONE
+    },
+];
+
+/// Whether `why` leaves this of the two albums.
+fn row_holds<R: AllocGlobal + Threads + Wait + Sync>(rt: &R, row: &Row) -> Result<bool, Fail> {
+    let case = Case {
+        words: &["why", "g", "k", row.first, row.second],
+        keys: ALBUM_AND_ARTIST_KEYS,
+        status: row.status,
+        out: row.out,
+        err: row.err,
+        ..WHY
+    };
+    holds(rt, &case)
+}
+
+#[test]
+fn words_name_entities_of_the_graph(rt: HostRuntime) -> Result<(), Fail> {
+    for (row, expected) in ROWS.iter().enumerate() {
+        assert!(rt; row_holds(&rt, expected)?, "row {row}");
+    }
+    Ok(())
+}
+
+#[test]
+fn a_word_that_is_not_utf_8_names_no_entity(rt: HostRuntime) -> Result<(), Fail> {
+    let mut words = Vec::new(rt.alloc());
+    for word in ["why", "g", "k", "<urn:al1>"] {
+        words.push(Text::from_bytes(rt.alloc(), word.as_bytes())?)?;
+    }
+    words.push(Text::from_bytes(rt.alloc(), b"<urn:\xFF>")?)?;
+    let case = Case {
+        status: 2,
+        out: "",
+        err: NO_SECOND,
+        ..WHY
+    };
+    assert!(rt; leaves(&rt, &words, &case)?);
+    Ok(())
+}
+
+#[test]
+fn a_reason_has_the_steps_that_it_needs(rt: HostRuntime) -> Result<(), Fail> {
+    let four = Case {
+        graph: FOUR_ALBUMS,
+        keys: ALBUM_AND_ARTIST_KEYS,
+        ..WHY
+    };
+    for (second, accepted) in [("<urn:ar2>", "accepted 2\n"), ("<urn:ar1>", "accepted 0\n")] {
+        let asked = Case {
+            words: &["why", "g", "k", "<urn:ar1>", second],
+            ..four
+        };
+        let proof = printed(&rt, &asked)?.ok_or("no proof")?;
+        let checked = Case {
+            words: &["check", "g", "k", "p"],
+            proof: &proof,
+            out: accepted,
+            ..four
+        };
+        assert!(rt; holds(&rt, &checked)?, "{second}");
+    }
+    let apart = Case {
+        words: &["why", "g", "k", "<urn:al1>", "<urn:al3>"],
+        status: 1,
+        out: NOT_THE_SAME,
+        ..four
+    };
+    assert!(rt; holds(&rt, &apart)?);
+    Ok(())
+}
+
+#[test]
+fn reasons_are_found_with_any_workers(rt: HostRuntime) -> Result<(), Fail> {
+    for workers in ["1", "64"] {
+        let case = Case {
+            words: &[
+                "why",
+                "--workers",
+                workers,
+                "g",
+                "k",
+                "<urn:al1>",
+                "<urn:al2>",
+            ],
+            ..WHY
+        };
+        assert!(rt; holds(&rt, &case)?, "{workers} workers");
+    }
+    Ok(())
+}
+
+#[test]
+fn files_are_refused_before_words_and_words_before_pairs(rt: HostRuntime) -> Result<(), Fail> {
+    let refused = Case {
+        words: &["why", "g", "k", "al1", "al2"],
+        limits: Limits {
+            pairs: 0,
+            ..Limits::STANDARD
+        },
+        status: 2,
+        out: "",
+        err: NO_FIRST,
+        ..WHY
+    };
+    let bad_graph = Case {
+        graph: b"<urn:a> <urn:p> .\n",
+        keys: b"end\n",
+        err: "graph:1: object expected\n",
+        ..refused
+    };
+    let bad_keys = Case {
+        keys: b"end\n",
+        err: "keys:1: statement out of place\n",
+        ..refused
+    };
+    let few_pairs = Case {
+        words: WHY.words,
+        err: "pairs: more than 0\n",
+        ..refused
+    };
+    let dashes = Case {
+        words: &["why", "--workers", "4", "g", "k"],
+        keys: ALBUM_KEY,
+        status: 3,
+        err: "graph: read failed\n",
+        ..refused
+    };
+    for (row, case) in [refused, bad_graph, bad_keys, few_pairs, dashes]
+        .into_iter()
+        .enumerate()
+    {
+        assert!(rt; holds(&rt, &case)?, "row {row}");
+    }
+    Ok(())
+}
+
+/// Words that ask for no command.
+static NO_COMMAND: [&'static [&'static str]; 7] = [
+    &["merge", "g"],
+    &["merge", "g", "k", "k"],
+    &["merge", "--workers", "65", "g", "k"],
+    &["why", "g", "k", "<urn:al1>"],
+    &["why", "--workers", "4", "g", "k", "<urn:al1>"],
+    &["why", "--workers", "0", "g", "k", "<urn:al1>", "<urn:al2>"],
+    &[
+        "match",
+        "--workers",
+        "4",
+        "g",
+        "k",
+        "<urn:al1>",
+        "<urn:al2>",
+    ],
+];
+
+#[test]
+fn other_words_ask_for_no_command(rt: HostRuntime) -> Result<(), Fail> {
+    for (row, words) in NO_COMMAND.iter().enumerate() {
+        let case = Case {
+            words,
+            status: 64,
+            out: "",
+            err: "usage:\n  gkey match [--workers N] GRAPH KEYS\n  gkey prove [--workers N] GRAPH KEYS\n  gkey check GRAPH KEYS PROOF\n  gkey convert PROOF\n  gkey demo N\n  gkey merge [--workers N] GRAPH KEYS\n  gkey why [--workers N] GRAPH KEYS A B\n",
+            ..WHY
+        };
+        assert!(rt; holds(&rt, &case)?, "row {row}");
+    }
+    Ok(())
+}
