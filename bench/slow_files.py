@@ -4,8 +4,9 @@
 Usage: bench/slow_files.py [NAME ..]   (all, if no name is given)
 
 For each run it prints the processor time, the greatest part of memory in use, the status, and how the output or the error text
-begins. A run that takes more than SECONDS of the processor's time is ended, which is told as `stopped`; it has 8 GB of address space. Of small runs the memory told
-is no less than Python's own, some 20 MB. All of it takes some five minutes, 2 GB of memory and 2 GB of the disk.
+begins. A run that takes more than SECONDS of the processor's time is ended, which is told as `stopped`; it has 8 GB of address
+space. Of small runs the memory told is no less than Python's own, some 20 MB. All of it takes some ten minutes, 5 GB of memory
+and 2 GB of the disk.
 """
 
 import itertools
@@ -154,7 +155,7 @@ def many_keys():
         text += f"key k{n} <urn:T>\nvalue $v\n" + "".join(f"any _w{n} <urn:T>\n" for n in range(14))
         text += "?x <urn:p> $v\n" + "".join(f"{a} <urn:step> {b}\n" for a, b in steps)
         text += "".join(f"{a} <urn:chord> {b}\n" for a, b in chords)
-        text += "".join(f"_w{13 - m} <urn:back> _w{13 - m - 1}\n" for m in range(3)) + f"_w13 <urn:lacks{n}> _w0\nend\n"
+        text += "".join(f"_w{13 - m} <urn:back> _w{13 - m - 1}\n" for m in range(3)) + f"_w13 <urn:lacks{n}> _w12\nend\n"
     return text
 
 
@@ -282,7 +283,7 @@ CASES = [
     Case("a ring of 2^18 and a key with one of 14", long_ring, ring_key(14)),
     *(Case(f"{n} who all know each other, {n + 1} asked for", lambda out, n=n: clique(out, n), ring_key(n + 1)) for n in range(4, 8)),
     *(Case(f"{n} who all know each other, {n + 1} asked for as entities", lambda out, n=n: clique(out, n), ring_key(n + 1, "entity"))
-      for n in range(7, 11)),
+      for n in range(7, 12)),
 ]
 
 
