@@ -2,16 +2,16 @@
 
 ghost use Rattle.std.specs.Prelude.{◌<◌, ◌≤◌};
 
-use crate::gates::{empty_meeting, no_counts};
+use crate::ENOUGH;
 use crate::graphs::{Kind, prepared};
 use chase_core::{Chase, Matched, Setup, Woken};
+use gates::{Counts, Meeting};
 use gk_base::NoMemory;
 use match_run::{chase, chase_setup};
 use std::alloc::Global;
 use std::process::Abort;
 use std::sync::Wait;
 use std::sync::atomic::Ordering;
-use std::test::Fail;
 use std::thread::Threads;
 use steal_pool::{Crew, Gate, OpenGate};
 
@@ -22,25 +22,25 @@ fn run<G: Gate, R: Threads + Wait + Sync + Abort>(
     setup: &Setup,
     workers: u32,
     gate: &G,
-) -> Result<Matched, Fail>
+) -> Matched
     requires { (0 < workers) × (workers ≤ 64) }
 {
-    let mut woken = Woken::new(alloc, 0)?;
-    let made = Chase::new(alloc, setup)?;
+    let mut woken = Woken::new(alloc, 0).expect(rt, ENOUGH);
+    let made = Chase::new(alloc, setup).expect(rt, ENOUGH);
     match Crew::new(alloc, made, workers) {
-        Ok(crew) => Ok(chase(rt, crew, &mut woken, gate)),
+        Ok(crew) => chase(rt, crew, &mut woken, gate),
         Err((_, NoMemory)) => panic!(rt; "no memory"),
     }
 }
 
 /// What one thread comes to.
-fn drained(alloc: Global, setup: &Setup) -> Result<Matched, Fail> {
-    let mut woken = Woken::new(alloc, 0)?;
-    let mut alone = Chase::new(alloc, setup)?;
+fn drained(rt: &impl Abort, alloc: Global, setup: &Setup) -> Matched {
+    let mut woken = Woken::new(alloc, 0).expect(rt, ENOUGH);
+    let mut alone = Chase::new(alloc, setup).expect(rt, ENOUGH);
     // No pair is handed out: for the proof alone.
     alone.recall();
     alone.drain(&mut woken);
-    Ok(alone.finish())
+    alone.finish()
 }
 
 /// Whether both make the same names the same.
@@ -67,24 +67,22 @@ fn find_the_same<R: Threads + Wait + Sync + Abort>(
     workers: u32,
     alone: &[u32],
     count: usize,
-) -> Result<bool, Fail>
+) -> bool
     requires { (0 < workers) × (workers ≤ 64) }
 {
-    let crew = run(rt, alloc, setup, workers, &OpenGate)?;
-    let whole = chase_setup(rt, alloc, setup, workers, &OpenGate)?;
-    Ok(
-        are_alike(&crew.labels, alone)
-            && are_alike(&whole.labels, alone)
-            && whole.journal.len() == count,
-    )
+    let crew = run(rt, alloc, setup, workers, &OpenGate);
+    let whole = chase_setup(rt, alloc, setup, workers, &OpenGate).expect(rt, ENOUGH);
+    are_alike(&crew.labels, alone)
+        && are_alike(&whole.labels, alone)
+        && whole.journal.len() == count
 }
 
 #[test]
-fn crews_find_what_one_thread_finds(rt: HostRuntime) -> Result<(), Fail> {
+fn crews_find_what_one_thread_finds(rt: HostRuntime) {
     let alloc = rt.alloc();
     for (kind, count) in [(Kind::Chain, 2), (Kind::Alone, 2), (Kind::Chain, 60)] {
-        let prepared = prepared(&rt, alloc, kind, count)?;
-        let alone = drained(alloc, &prepared.setup)?;
+        let prepared = prepared(&rt, alloc, kind, count);
+        let alone = drained(&rt, alloc, &prepared.setup);
         for workers in [1, 2, 64] {
             let same = find_the_same(
                 &rt,
@@ -93,63 +91,56 @@ fn crews_find_what_one_thread_finds(rt: HostRuntime) -> Result<(), Fail> {
                 workers,
                 &alone.labels,
                 count as usize,
-            )?;
+            );
             assert!(&rt; same);
         }
     }
-    Ok(())
 }
 
 #[test]
-fn each_pair_passes_once(rt: HostRuntime) -> Result<(), Fail> {
+fn each_pair_passes_once(rt: HostRuntime) {
     let alloc = rt.alloc();
-    let prepared = prepared(&rt, alloc, Kind::Alone, 100)?;
-    let gate = no_counts(alloc, 100)?;
+    let prepared = prepared(&rt, alloc, Kind::Alone, 100);
+    let gate = Counts::new(alloc, 100).expect(&rt, ENOUGH);
     assert_eq!(&rt;
-        run(&rt, alloc, &prepared.setup, 4, &gate)?.journal.len(),
+        run(&rt, alloc, &prepared.setup, 4, &gate).journal.len(),
         100
     );
     for count in &gate.passed {
         assert_eq!(&rt; count.load(Ordering::SeqCst), 1);
     }
-    Ok(())
 }
 
 #[test]
-fn one_worker_begins_with_its_last_hint(rt: HostRuntime) -> Result<(), Fail> {
+fn one_worker_begins_with_its_last_hint(rt: HostRuntime) {
     let alloc = rt.alloc();
-    let prepared = prepared(&rt, alloc, Kind::Alone, 100)?;
-    let gate = no_counts(alloc, 100)?;
+    let prepared = prepared(&rt, alloc, Kind::Alone, 100);
+    let gate = Counts::new(alloc, 100).expect(&rt, ENOUGH);
     assert_eq!(&rt;
-        run(&rt, alloc, &prepared.setup, 1, &gate)?.journal.len(),
+        run(&rt, alloc, &prepared.setup, 1, &gate).journal.len(),
         100
     );
     assert_eq!(&rt; gate.first.load(Ordering::SeqCst), 99);
-    Ok(())
 }
 
 #[test]
-fn two_workers_are_at_the_gate_at_once(rt: HostRuntime) -> Result<(), Fail> {
+fn two_workers_are_at_the_gate_at_once(rt: HostRuntime) {
     let alloc = rt.alloc();
-    let prepared = prepared(&rt, alloc, Kind::Alone, 2)?;
-    let gate = empty_meeting();
-    assert_eq!(&rt;
-        run(&rt, alloc, &prepared.setup, 2, &gate)?.journal.len(),
-        2
-    );
+    let prepared = prepared(&rt, alloc, Kind::Alone, 2);
+    let gate = Meeting::new();
+    assert_eq!(&rt; run(&rt, alloc, &prepared.setup, 2, &gate).journal.len(), 2);
     assert_eq!(&rt; gate.met.load(Ordering::SeqCst), 1);
-    Ok(())
 }
 
 #[test]
-fn crews_of_all_sizes_come_to_the_same(rt: HostRuntime) -> Result<(), Fail> {
+fn crews_of_all_sizes_come_to_the_same(rt: HostRuntime) {
     let alloc = rt.alloc();
     for count in [0, 1, 3, 1000] {
         for kind in [Kind::Alone, Kind::Chain] {
-            let prepared = prepared(&rt, alloc, kind, count)?;
+            let prepared = prepared(&rt, alloc, kind, count);
             for workers in [1, 2, 4, 64] {
                 assert_eq!(&rt;
-                    run(&rt, alloc, &prepared.setup, workers, &OpenGate)?
+                    run(&rt, alloc, &prepared.setup, workers, &OpenGate)
                         .journal
                         .len(),
                     count as usize
@@ -157,5 +148,4 @@ fn crews_of_all_sizes_come_to_the_same(rt: HostRuntime) -> Result<(), Fail> {
             }
         }
     }
-    Ok(())
 }

@@ -1,11 +1,11 @@
 //! Graphs of so many pairs of names of type 1. Both names of a pair have one literal under 2, which no other has.
 
+use crate::ENOUGH;
 use chase_laws::Slot;
 use fixtures::{GraphTable, PatternTable, patterns_of};
 use match_run::{Prepared, prepare};
 use std::alloc::{AllocError, Global};
 use std::process::Abort;
-use std::test::Fail;
 use std::thread::Threads;
 
 /// How the pairs stand to one another.
@@ -18,7 +18,7 @@ pub enum Kind {
 }
 
 // One literal under 4, or one under 2 and what is the same under 3.
-const KEYS: [PatternTable<'static>; 2] = [
+static KEYS: [PatternTable<'static>; 2] = [
     PatternTable {
         slots: &[Slot::Entity(1), Slot::Value],
         edges: &[(0, 4, 1)],
@@ -44,13 +44,12 @@ fn push_pair(rows: &mut Vec<[u32; 3]>, first: u32, ends: bool) -> Result<(), All
     Ok(())
 }
 
-/// So many pairs, prepared for a chase.
-pub fn prepared<R: Threads + Sync + Abort>(
-    rt: &R,
+/// The rows of so many pairs, their literals, and the number after the last name.
+fn rows_of(
     alloc: Global,
     kind: Kind,
     count: u32,
-) -> Result<Prepared, Fail> {
+) -> Result<(Vec<[u32; 3]>, Vec<u32>, u32), AllocError> {
     let mut rows = Vec::new(alloc);
     let mut literals = Vec::new(alloc);
     let mut first = 5u32;
@@ -63,17 +62,35 @@ pub fn prepared<R: Threads + Sync + Abort>(
         literals.push(first.wrapping_add(2))?;
         first = first.wrapping_add(3);
     }
+    Ok((rows, literals, first))
+}
+
+// The keys, behind a function, so that proofs do not see them.
+fn keys() -> &'static [PatternTable<'static>] {
+    &KEYS
+}
+
+/// So many pairs, prepared for a chase.
+pub fn prepared<R: Threads + Sync + Abort>(
+    rt: &R,
+    alloc: Global,
+    kind: Kind,
+    count: u32,
+) -> Prepared {
+    let (rows, literals, names) = rows_of(alloc, kind, count).expect(rt, ENOUGH);
     let table = GraphTable {
-        names: first,
+        names,
         rows: &rows,
         literals: &literals,
         rdf_type: Some(0),
         alike: &[],
     };
-    let graph = table.build(alloc)?;
-    let keys = patterns_of(alloc, &KEYS)?;
-    match prepare(rt, alloc, graph, keys, 1_000_000) {
-        Ok(prepared) => Ok(prepared),
+    let made = match (table.build(alloc), patterns_of(alloc, keys())) {
+        (Ok(graph), Ok(keys)) => prepare(rt, alloc, graph, keys, 1_000_000),
+        _ => panic!(rt; "no graph and keys"),
+    };
+    match made {
+        Ok(prepared) => prepared,
         Err(_) => panic!(rt; "not prepared"),
     }
 }
