@@ -2,12 +2,12 @@
 
 ghost use Rattle.std.specs.Prelude.{◌≡◌, ◌<◌, length};
 
+use crate::ENOUGH;
 use chase_laws::{Entry, Places};
 use class_book::Book;
 use gk_base::NoMemory;
 use std::alloc::Global;
 use std::process::Abort;
-use std::test::Fail;
 
 /// An identification of two nodes.
 fn entry(a: u32, b: u32) -> Entry
@@ -59,15 +59,15 @@ fn enter_each(rt: &impl Abort, book: &mut Book, steps: &[((u32, u32), u32, [u32;
 }
 
 #[test]
-fn the_larger_class_keeps_its_label(rt: HostRuntime) -> Result<(), Fail> {
+fn the_larger_class_keeps_its_label(rt: HostRuntime) {
     let alloc = rt.alloc();
-    let mut grown = Book::new(alloc, 4, 3)?;
+    let mut grown = Book::new(alloc, 4, 3).expect(&rt, ENOUGH);
     let steps = [((0, 1), 0, [0, 0, 2, 3]), ((1, 2), 1, [0, 0, 0, 3])];
     enter_each(&rt, &mut grown, &steps);
     assert_eq!(rt; grown.size(2), 3);
     assert!(rt; !grown.same(0, 3));
 
-    let mut tied = Book::new(alloc, 4, 3)?;
+    let mut tied = Book::new(alloc, 4, 3).expect(&rt, ENOUGH);
     let steps = [
         ((0, 1), 0, [0, 0, 2, 3]),
         ((2, 3), 1, [0, 0, 2, 2]),
@@ -76,15 +76,14 @@ fn the_larger_class_keeps_its_label(rt: HostRuntime) -> Result<(), Fail> {
     enter_each(&rt, &mut tied, &steps);
     assert_eq!(rt; tied.size(3), 4);
     assert_eq!(rt;
-        members_of(alloc, &tied, 3)?.as_slice(),
+        members_of(alloc, &tied, 3).expect(&rt, ENOUGH).as_slice(),
         [0, 1, 2, 3].as_slice()
     );
 
-    let mut later = Book::new(alloc, 4, 3)?;
+    let mut later = Book::new(alloc, 4, 3).expect(&rt, ENOUGH);
     let steps = [((2, 3), 0, [0, 1, 2, 2]), ((0, 3), 1, [2, 1, 2, 2])];
     enter_each(&rt, &mut later, &steps);
     let (labels, journal) = later.into_parts();
     assert_eq!(rt; labels.as_slice(), [2, 1, 2, 2].as_slice());
     assert_eq!(rt; journal.len(), 2);
-    Ok(())
 }

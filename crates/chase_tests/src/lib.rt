@@ -21,3 +21,7 @@ mod plays;
 mod wakings;
 #[cfg(test)]
 mod wholes;
+
+/// What a test ends with where there is no memory for it.
+#[cfg(test)]
+const ENOUGH: &str = "enough memory";

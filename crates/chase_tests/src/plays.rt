@@ -1,5 +1,6 @@
 //! Chases that are played step by step, with two pairs in hand at once.
 
+use crate::ENOUGH;
 use crate::hands::{Hand, Step, play};
 use chase_core::{Chase, Matched, PairState, Settled, Setup, Woken};
 use fixtures::worked_graphs::{ring, star, two_pairs};
@@ -18,16 +19,24 @@ fn keys() -> &'static [PatternTable<'static>] {
 }
 
 /// The setup of a graph and two keys, by name and code and by name and next one, with its candidate pairs.
-pub(crate) fn setup_of(alloc: Global, table: &GraphTable<'_>) -> Result<Setup, Fail> {
+fn made(alloc: Global, table: &GraphTable<'_>) -> Result<Setup, Fail> {
     let graph = table.build(alloc)?;
     let patterns = patterns_of(alloc, keys())?;
     let pairs = seed(alloc, &graph, &patterns, 100)?;
     Ok(Setup::new(alloc, graph, patterns, pairs)?)
 }
 
+/// The same in a test, which ends where it can't be made.
+pub(crate) fn setup_of(rt: &impl Abort, alloc: Global, table: &GraphTable<'_>) -> Setup {
+    match made(alloc, table) {
+        Ok(setup) => setup,
+        Err(_) => panic!(rt; "no setup"),
+    }
+}
+
 #[test]
-fn a_setup_answers_its_looks(rt: HostRuntime) -> Result<(), Fail> {
-    let setup = setup_of(rt.alloc(), &two_pairs())?;
+fn a_setup_answers_its_looks(rt: HostRuntime) {
+    let setup = setup_of(&rt, rt.alloc(), &two_pairs());
     assert_eq!(rt; setup.pairs(), [(0, 3), (8, 9)].as_slice());
     assert_eq!(rt; setup.widest(), 4);
     assert_eq!(rt; setup.patterns().len(), 2);
@@ -37,7 +46,6 @@ fn a_setup_answers_its_looks(rt: HostRuntime) -> Result<(), Fail> {
     assert_eq!(rt; setup.pairs_of(3), [0].as_slice());
     assert_eq!(rt; setup.pairs_of(8), [1].as_slice());
     assert_eq!(rt; setup.pairs_of(5), [].as_slice());
-    Ok(())
 }
 
 /// Steps with a chase, and what it has to come to.
@@ -62,16 +70,11 @@ fn is_matched(matched: &Matched, play: &Play) -> bool {
 }
 
 /// Plays the steps on a new chase and finishes it.
-pub(crate) fn plays(
-    rt: &impl Abort,
-    alloc: Global,
-    setup: &Setup,
-    steps: &Play,
-) -> Result<(), Fail> {
-    let mut chase = Chase::new(alloc, setup)?;
-    let mut left = Hand::new(alloc, setup)?;
-    let mut right = Hand::new(alloc, setup)?;
-    let mut woken = Woken::new(alloc, steps.room)?;
+pub(crate) fn plays(rt: &impl Abort, alloc: Global, setup: &Setup, steps: &Play) {
+    let mut chase = Chase::new(alloc, setup).expect(rt, ENOUGH);
+    let mut left = Hand::new(alloc, setup).expect(rt, ENOUGH);
+    let mut right = Hand::new(alloc, setup).expect(rt, ENOUGH);
+    let mut woken = Woken::new(alloc, steps.room).expect(rt, ENOUGH);
     play(
         rt,
         &mut chase,
@@ -81,15 +84,14 @@ pub(crate) fn plays(
         steps.steps,
     );
     assert!(rt; is_matched(&chase.finish(), steps));
-    Ok(())
 }
 
 /// Plays the steps on a new chase, calls all pairs back, drains the chase and finishes it.
-fn drains(rt: &impl Abort, alloc: Global, setup: &Setup, steps: &Play) -> Result<(), Fail> {
-    let mut chase = Chase::new(alloc, setup)?;
-    let mut left = Hand::new(alloc, setup)?;
-    let mut right = Hand::new(alloc, setup)?;
-    let mut woken = Woken::new(alloc, steps.room)?;
+fn drains(rt: &impl Abort, alloc: Global, setup: &Setup, steps: &Play) {
+    let mut chase = Chase::new(alloc, setup).expect(rt, ENOUGH);
+    let mut left = Hand::new(alloc, setup).expect(rt, ENOUGH);
+    let mut right = Hand::new(alloc, setup).expect(rt, ENOUGH);
+    let mut woken = Woken::new(alloc, steps.room).expect(rt, ENOUGH);
     play(
         rt,
         &mut chase,
@@ -101,7 +103,6 @@ fn drains(rt: &impl Abort, alloc: Global, setup: &Setup, steps: &Play) -> Result
     chase.recall();
     chase.drain(&mut woken);
     assert!(rt; is_matched(&chase.finish(), steps));
-    Ok(())
 }
 
 pub(crate) const LEFT: bool = true;
@@ -135,9 +136,9 @@ fn missed_and_woken() -> &'static Play {
 }
 
 #[test]
-fn a_missed_pair_is_woken_by_an_entry_near_to_it(rt: HostRuntime) -> Result<(), Fail> {
-    let setup = setup_of(rt.alloc(), &two_pairs())?;
-    plays(&rt, rt.alloc(), &setup, missed_and_woken())
+fn a_missed_pair_is_woken_by_an_entry_near_to_it(rt: HostRuntime) {
+    let setup = setup_of(&rt, rt.alloc(), &two_pairs());
+    plays(&rt, rt.alloc(), &setup, missed_and_woken());
 }
 
 /// The label of 3 has changed since.
@@ -169,9 +170,9 @@ fn searched_meanwhile() -> &'static Play {
 }
 
 #[test]
-fn a_search_that_was_overtaken_is_not_kept(rt: HostRuntime) -> Result<(), Fail> {
-    let setup = setup_of(rt.alloc(), &two_pairs())?;
-    plays(&rt, rt.alloc(), &setup, searched_meanwhile())
+fn a_search_that_was_overtaken_is_not_kept(rt: HostRuntime) {
+    let setup = setup_of(&rt, rt.alloc(), &two_pairs());
+    plays(&rt, rt.alloc(), &setup, searched_meanwhile());
 }
 
 /// Three pairs are missed and woken, and two of them handed out and called back.
@@ -207,9 +208,9 @@ fn woken_and_recalled() -> &'static Play {
 }
 
 #[test]
-fn woken_and_recalled_pairs_wait_in_order(rt: HostRuntime) -> Result<(), Fail> {
-    let setup = setup_of(rt.alloc(), &star())?;
-    plays(&rt, rt.alloc(), &setup, woken_and_recalled())
+fn woken_and_recalled_pairs_wait_in_order(rt: HostRuntime) {
+    let setup = setup_of(&rt, rt.alloc(), &star());
+    plays(&rt, rt.alloc(), &setup, woken_and_recalled());
 }
 
 /// No step is made.
@@ -242,10 +243,10 @@ fn begun() -> &'static Play {
 }
 
 #[test]
-fn a_drain_goes_on_from_any_state(rt: HostRuntime) -> Result<(), Fail> {
-    let setup = setup_of(rt.alloc(), &star())?;
-    drains(&rt, rt.alloc(), &setup, untouched())?;
-    drains(&rt, rt.alloc(), &setup, begun())
+fn a_drain_goes_on_from_any_state(rt: HostRuntime) {
+    let setup = setup_of(&rt, rt.alloc(), &star());
+    drains(&rt, rt.alloc(), &setup, untouched());
+    drains(&rt, rt.alloc(), &setup, begun());
 }
 
 /// Two pairs are missed, of which the third pair wakes one, and that one the other.
@@ -273,8 +274,8 @@ fn wakes_in_turn() -> &'static Play {
 }
 
 #[test]
-fn a_woken_pair_wakes_another(rt: HostRuntime) -> Result<(), Fail> {
-    let setup = setup_of(rt.alloc(), &ring())?;
+fn a_woken_pair_wakes_another(rt: HostRuntime) {
+    let setup = setup_of(&rt, rt.alloc(), &ring());
     assert_eq!(rt; setup.widest(), 6);
-    plays(&rt, rt.alloc(), &setup, wakes_in_turn())
+    plays(&rt, rt.alloc(), &setup, wakes_in_turn());
 }

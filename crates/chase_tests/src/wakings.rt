@@ -6,7 +6,6 @@ use crate::plays::{LEFT, Play, plays, setup_of};
 use chase_core::{PairState, Settled};
 use fixtures::GraphTable;
 use fixtures::worked_graphs::star;
-use std::test::Fail;
 
 /// Four pairs of one name each, 5, 10, 14 and 17, of which each leads to the one before. The first, 0 and 3, have one
 /// code, 7.
@@ -267,15 +266,20 @@ fn at_a_large_class() -> &'static Play {
 }
 
 #[test]
-fn each_entry_wakes_the_pairs_whose_ends_it_brings_together(rt: HostRuntime) -> Result<(), Fail> {
+fn each_entry_wakes_the_pairs_whose_ends_it_brings_together(rt: HostRuntime) {
     let alloc = rt.alloc();
-    plays(&rt, alloc, &setup_of(alloc, &chain())?, along_a_chain())?;
-    plays(&rt, alloc, &setup_of(alloc, &star())?, centre_last())?;
-    plays(&rt, alloc, &setup_of(alloc, &third_class())?, by_a_third())?;
+    plays(&rt, alloc, &setup_of(&rt, alloc, &chain()), along_a_chain());
+    plays(&rt, alloc, &setup_of(&rt, alloc, &star()), centre_last());
     plays(
         &rt,
         alloc,
-        &setup_of(alloc, &large_class())?,
+        &setup_of(&rt, alloc, &third_class()),
+        by_a_third(),
+    );
+    plays(
+        &rt,
+        alloc,
+        &setup_of(&rt, alloc, &large_class()),
         at_a_large_class(),
-    )
+    );
 }

@@ -1,5 +1,6 @@
 //! Whole matches.
 
+use crate::ENOUGH;
 use fixtures::worked_graphs::{albums, two_pairs};
 use fixtures::worked_patterns::{ALBUM_BY, ARTIST, NAME_AND_CODE, NAME_AND_NEXT};
 use fixtures::{GraphTable, PatternTable, patterns_of};
@@ -8,7 +9,6 @@ use pair_seed::{SeedStop, TooManyPairs};
 use std::alloc::Global;
 use std::process::Abort;
 use std::sync::Wait;
-use std::test::Fail;
 use std::thread::Threads;
 use steal_pool::OpenGate;
 
@@ -28,31 +28,33 @@ fn are_labels(labels: &[u32], wanted: &[u32]) -> bool {
 }
 
 /// Whether the classes of a graph by a case's keys are those of the case, as one worker and as two find them.
-fn has_classes<R: Threads + Wait + Sync>(
+fn has_classes<R: Threads + Wait + Sync + Abort>(
     rt: &R,
     alloc: Global,
     table: &GraphTable<'_>,
     case: &Case,
-) -> Result<bool, Fail> {
+) -> bool {
     let limit = u64::from(case.limit);
     let mut right = true;
     for workers in 1..3u32 {
-        let graph = table.build(alloc)?;
-        let keys = patterns_of(alloc, case.keys)?;
-        let labels = classes(rt, alloc, graph, keys, limit, workers, &OpenGate)?;
+        let graph = table.build(alloc).expect(rt, "a graph");
+        let keys = patterns_of(alloc, case.keys).expect(rt, "patterns");
+        let labels = classes(rt, alloc, graph, keys, limit, workers, &OpenGate).expect(
+            rt, "classes",
+        );
         right = right && are_labels(&labels, case.wanted);
     }
-    Ok(right)
+    right
 }
 
 /// How many candidate pairs the albums have by all keys, or how many are told where there are too many.
-fn seeded<R: Threads + Sync>(rt: &R, alloc: Global, limit: u32) -> Result<Result<u64, u64>, Fail> {
-    let graph = albums().build(alloc)?;
-    let keys = patterns_of(alloc, together().keys)?;
+fn seeded<R: Threads + Sync + Abort>(rt: &R, alloc: Global, limit: u32) -> Result<u64, u64> {
+    let graph = albums().build(alloc).expect(rt, "a graph");
+    let keys = patterns_of(alloc, together().keys).expect(rt, "patterns");
     match prepare(rt, alloc, graph, keys, u64::from(limit)) {
-        Ok(prepared) => Ok(Ok(prepared.seeded)),
-        Err(SeedStop::Fault(TooManyPairs { found })) => Ok(Err(found)),
-        Err(SeedStop::NoMemory) => Ok(Err(0)),
+        Ok(prepared) => Ok(prepared.seeded),
+        Err(SeedStop::Fault(TooManyPairs { found })) => Err(found),
+        Err(SeedStop::NoMemory) => Err(0),
     }
 }
 
@@ -109,27 +111,25 @@ fn by_no_key() -> &'static Case {
 }
 
 #[test]
-fn keys_support_one_another_in_any_order_of_rows(rt: HostRuntime) -> Result<(), Fail> {
+fn keys_support_one_another_in_any_order_of_rows(rt: HostRuntime) {
     let alloc = rt.alloc();
     let table = albums();
-    assert!(rt; has_classes(&rt, alloc, &table, together())?);
-    let mut rows = table.rows.to_vec(alloc)?;
+    assert!(rt; has_classes(&rt, alloc, &table, together()));
+    let mut rows = table.rows.to_vec(alloc).expect(&rt, ENOUGH);
     rows.reverse();
     let reversed = GraphTable {
         rows: &rows,
         ..table
     };
-    assert!(rt; has_classes(&rt, alloc, &reversed, together())?);
-    Ok(())
+    assert!(rt; has_classes(&rt, alloc, &reversed, together()));
 }
 
 #[test]
-fn candidate_pairs_are_counted_against_the_limit(rt: HostRuntime) -> Result<(), Fail> {
+fn candidate_pairs_are_counted_against_the_limit(rt: HostRuntime) {
     for (limit, wanted) in [(4, Ok(3)), (3, Ok(3)), (2, Err(3)), (0, Err(1))] {
-        let is = seeded(&rt, rt.alloc(), limit)? == wanted;
+        let is = seeded(&rt, rt.alloc(), limit) == wanted;
         assert!(rt; is, "limit {limit}");
     }
-    Ok(())
 }
 
 /// One key, by which two pairs are candidates, of which one has no next ones.
@@ -140,24 +140,21 @@ fn next() -> &'static [PatternTable<'static>] {
 }
 
 #[test]
-fn the_filter_comes_after_the_count(rt: HostRuntime) -> Result<(), Fail> {
-    let graph = two_pairs().build(rt.alloc())?;
-    let keys = patterns_of(rt.alloc(), next())?;
-    let prepared = prepare(&rt, rt.alloc(), graph, keys, 2)?;
+fn the_filter_comes_after_the_count(rt: HostRuntime) {
+    let graph = two_pairs().build(rt.alloc()).expect(&rt, "a graph");
+    let keys = patterns_of(rt.alloc(), next()).expect(&rt, "patterns");
+    let prepared = prepare(&rt, rt.alloc(), graph, keys, 2).expect(&rt, "pairs");
     assert_eq!(rt; prepared.seeded, 2);
     assert_eq!(rt; prepared.setup.pairs(), [(8, 9)].as_slice());
-    Ok(())
 }
 
 #[test]
-fn pairs_that_only_support_each_other_stay_apart(rt: HostRuntime) -> Result<(), Fail> {
-    assert!(rt; has_classes(&rt, rt.alloc(), &albums(), apart())?);
-    Ok(())
+fn pairs_that_only_support_each_other_stay_apart(rt: HostRuntime) {
+    assert!(rt; has_classes(&rt, rt.alloc(), &albums(), apart()));
 }
 
 #[test]
-fn one_key_finds_its_own_pair(rt: HostRuntime) -> Result<(), Fail> {
-    assert!(rt; has_classes(&rt, rt.alloc(), &albums(), by_year())?);
-    assert!(rt; has_classes(&rt, rt.alloc(), &albums(), by_no_key())?);
-    Ok(())
+fn one_key_finds_its_own_pair(rt: HostRuntime) {
+    assert!(rt; has_classes(&rt, rt.alloc(), &albums(), by_year()));
+    assert!(rt; has_classes(&rt, rt.alloc(), &albums(), by_no_key()));
 }
