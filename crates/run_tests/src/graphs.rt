@@ -1,8 +1,7 @@
 //! Graphs in all forms of N-Triples, and graphs that are refused.
 
-use crate::runs::{Case, GOOD, ONE_VALUE, holds};
-use fixtures::texts::ALBUM_KEY;
-use std::test::Fail;
+use crate::runs::{Case, GOOD, good, holds};
+use crate::texts::ONE_VALUE;
 
 const ALIKE: &[u8] = b"\
 <urn:u1> <http://www.w3.org/1999/02/22-rdf-syntax-ns#type> <urn:T> .
@@ -63,6 +62,10 @@ const RELATIVE: &[u8] = b"\
 <a> <urn:p> \"x\" .
 ";
 
+fn relative() -> &'static [u8] {
+    RELATIVE
+}
+
 const NOT_CLOSED: &[u8] = b"\
 <urn:al1> <http://www.w3.org/1999/02/22-rdf-syntax-ns#type> <urn:Album> .
 <urn:al2> <http://www.w3.org/1999/02/22-rdf-syntax-ns#type> <urn:Album> .
@@ -79,110 +82,126 @@ const REFUSED: Case<'static> = Case {
     ..GOOD
 };
 
+fn refused() -> Case<'static> {
+    REFUSED
+}
+
+/// Graphs with keys, and what is printed.
+static READ: [(&[u8], &[u8], &str); 3] = [
+    (ALIKE, THREE_VALUES, "<urn:u1> <urn:u2>\n"),
+    (LINE_ENDS, ONE_VALUE, "<urn:a> <urn:b>\n"),
+    (EXPORTED, ISBN, "<http://ex.org/b1> _:n4\n"),
+];
+
+fn read() -> &'static [(&'static [u8], &'static [u8], &'static str)] {
+    &READ
+}
+
 #[test]
-fn all_forms_of_terms_and_lines_are_read(rt: HostRuntime) -> Result<(), Fail> {
-    let read = [
-        (ALIKE, THREE_VALUES, "<urn:u1> <urn:u2>\n"),
-        (LINE_ENDS, ONE_VALUE, "<urn:a> <urn:b>\n"),
-        (EXPORTED, ISBN, "<http://ex.org/b1> _:n4\n"),
-    ];
-    for (row, (graph, keys, out)) in read.into_iter().enumerate() {
+fn all_forms_of_terms_and_lines_are_read(rt: HostRuntime) {
+    for (row, (graph, keys, out)) in read().iter().enumerate() {
         for most in [1usize, 2, 3, 65_536] {
             let case = Case {
                 graph,
                 keys,
                 most,
                 out: out.as_bytes(),
-                ..GOOD
+                ..good()
             };
-            assert!(rt; holds(&rt, &case)?, "row {row}, {most} bytes at once");
+            assert!(rt; holds(&rt, &case), "row {row}, {most} bytes at once");
         }
     }
-    Ok(())
+}
+
+/// Graphs that are refused, and how.
+static REFUSALS: [(&[u8], &str); 4] = [
+    (NO_LAST_DOT, "graph:5: dot expected\n"),
+    (RELATIVE, "graph:3: relative IRI\n"),
+    (NOT_CLOSED, "graph:7: string not closed\n"),
+    (b"\x1F\x8B\n", "graph:1: not UTF-8\n"),
+];
+
+fn refusals() -> &'static [(&'static [u8], &'static str)] {
+    &REFUSALS
 }
 
 #[test]
-fn refused_graphs_name_their_first_line(rt: HostRuntime) -> Result<(), Fail> {
-    let refused = [
-        (NO_LAST_DOT, "graph:5: dot expected\n"),
-        (RELATIVE, "graph:3: relative IRI\n"),
-        (NOT_CLOSED, "graph:7: string not closed\n"),
-        (b"\x1F\x8B\n", "graph:1: not UTF-8\n"),
-    ];
-    for (row, (graph, err)) in refused.into_iter().enumerate() {
+fn refused_graphs_name_their_first_line(rt: HostRuntime) {
+    for (row, (graph, err)) in refusals().iter().enumerate() {
         for most in [1usize, 2, 3, 65_536] {
             let case = Case {
                 graph,
                 most,
                 err,
-                ..REFUSED
+                ..refused()
             };
-            assert!(rt; holds(&rt, &case)?, "row {row}, {most} bytes at once");
+            assert!(rt; holds(&rt, &case), "row {row}, {most} bytes at once");
         }
     }
-    Ok(())
+}
+
+/// Lines, and their faults.
+static FAULTS: [(&str, &str); 9] = [
+    (
+        "\u{FEFF}<urn:a> <urn:p> \"1\" .",
+        "graph:1: subject expected\n",
+    ),
+    ("<urn:a> <urn:p> \"\\q\" .", "graph:1: bad escape\n"),
+    (
+        "<urn:a> <urn:p> \"x\"^ <urn:t> .",
+        "graph:1: dot expected\n",
+    ),
+    ("<urn:a> <urn:p> \"x\"^^ \"y\" .", "graph:1: bad IRI\n"),
+    ("<urn:a> <urn:p> _: .", "graph:1: bad blank node label\n"),
+    ("<urn:a> <urn:p> \"x\"@ .", "graph:1: bad language tag\n"),
+    ("<urn:a> \"p\" \"x\" .", "graph:1: predicate expected\n"),
+    ("<urn:a> <urn:p> .", "graph:1: object expected\n"),
+    ("<urn:a> <urn:p> \"x\" . x", "graph:1: text after the dot\n"),
+];
+
+fn faults() -> &'static [(&'static str, &'static str)] {
+    &FAULTS
 }
 
 #[test]
-fn each_fault_of_a_line_has_its_text(rt: HostRuntime) -> Result<(), Fail> {
-    let faults = [
-        (
-            "\u{FEFF}<urn:a> <urn:p> \"1\" .",
-            "graph:1: subject expected\n",
-        ),
-        ("<urn:a> <urn:p> \"\\q\" .", "graph:1: bad escape\n"),
-        (
-            "<urn:a> <urn:p> \"x\"^ <urn:t> .",
-            "graph:1: dot expected\n",
-        ),
-        ("<urn:a> <urn:p> \"x\"^^ \"y\" .", "graph:1: bad IRI\n"),
-        ("<urn:a> <urn:p> _: .", "graph:1: bad blank node label\n"),
-        ("<urn:a> <urn:p> \"x\"@ .", "graph:1: bad language tag\n"),
-        ("<urn:a> \"p\" \"x\" .", "graph:1: predicate expected\n"),
-        ("<urn:a> <urn:p> .", "graph:1: object expected\n"),
-        ("<urn:a> <urn:p> \"x\" . x", "graph:1: text after the dot\n"),
-    ];
-    for (row, (line, err)) in faults.into_iter().enumerate() {
+fn each_fault_of_a_line_has_its_text(rt: HostRuntime) {
+    for (row, (line, err)) in faults().iter().enumerate() {
         let case = Case {
             graph: line.as_bytes(),
             err,
-            ..REFUSED
+            ..refused()
         };
-        assert!(rt; holds(&rt, &case)?, "row {row}");
+        assert!(rt; holds(&rt, &case), "row {row}");
     }
-    Ok(())
 }
 
 /// Calls 2 to 5 give the first four bytes. The line is refused at its end, so the sixth call never comes.
 #[test]
-fn no_byte_is_read_after_a_refused_line(rt: HostRuntime) -> Result<(), Fail> {
+fn no_byte_is_read_after_a_refused_line(rt: HostRuntime) {
     let early = Case {
         graph: b"<a>\nx",
-        keys: ALBUM_KEY,
         reads: &[6],
         most: 1,
         err: "graph:1: relative IRI\n",
-        ..REFUSED
+        ..refused()
     };
-    assert!(rt; holds(&rt, &early)?);
+    assert!(rt; holds(&rt, &early));
     let unread = Case {
         reads: &[5],
         status: 3,
         err: "graph: read failed\n",
         ..early
     };
-    assert!(rt; holds(&rt, &unread)?);
-    Ok(())
+    assert!(rt; holds(&rt, &unread));
 }
 
 #[test]
-fn a_refused_graph_comes_before_a_missing_key_file(rt: HostRuntime) -> Result<(), Fail> {
+fn a_refused_graph_comes_before_a_missing_key_file(rt: HostRuntime) {
     let no_keys = Case {
         words: &["match", "g", "none"],
-        graph: RELATIVE,
+        graph: relative(),
         err: "graph:3: relative IRI\n",
-        ..REFUSED
+        ..refused()
     };
-    assert!(rt; holds(&rt, &no_keys)?);
-    Ok(())
+    assert!(rt; holds(&rt, &no_keys));
 }

@@ -1,37 +1,26 @@
 //! Small graphs with keys, and the classes that follow by hand. In the graphs and keys `%` stands for `rdf:type`.
 
-use crate::runs::{Case, GOOD, holds};
-use fixtures::texts::ALBUM_AND_ARTIST_KEYS;
+use crate::runs::{Case, ENOUGH, good, holds};
+use crate::texts::{THREE_CLASSES, album_and_artist_keys, albums_and_artists, three_classes};
+use fixtures::texts::{ALBUM_AND_ARTIST_KEYS, ALBUMS_AND_ARTISTS};
 use gk_base::{Limits, NoMemory};
 use std::alloc::Global;
+use std::process::Abort;
 use std::sync::Wait;
-use std::test::Fail;
 use std::thread::Threads;
 
 /// What a graph and keys lead to.
 #[derive(Clone, Copy)]
 struct Row {
     about: &'static str,
-    graph: &'static str,
+    graph: &'static [u8],
     keys: &'static [u8],
     out: &'static str,
 }
 
 const BY_P: &[u8] = b"key k <urn:T>\nvalue $v\n?x <urn:p> $v\nend\n";
 
-const TWO_OF_T: &str = "<urn:a> % <urn:T> .\n<urn:b> % <urn:T> .\n";
-
-/// Four albums by two artists: two pairs of albums of one name, of which one pair has one year, and two artists of one name.
-pub const ALBUMS_AND_ARTISTS: &str = "\
-<urn:al1> % <urn:Album> .\n<urn:al2> % <urn:Album> .\n<urn:al1> <urn:name> \"Anthology 2\" .\n<urn:al2> <urn:name> \"Anthology 2\" .
-<urn:al1> <urn:year> \"1996\" .\n<urn:al2> <urn:year> \"1996\" .
-<urn:al3> % <urn:Album> .\n<urn:al4> % <urn:Album> .\n<urn:al3> <urn:name> \"Help!\" .\n<urn:al4> <urn:name> \"Help!\" .
-<urn:ar1> % <urn:Artist> .\n<urn:ar2> % <urn:Artist> .\n<urn:ar1> <urn:name> \"The Beatles\" .\n<urn:ar2> <urn:name> \"The Beatles\" .
-<urn:al1> <urn:by> <urn:ar1> .\n<urn:al2> <urn:by> <urn:ar2> .\n<urn:al3> <urn:by> <urn:ar1> .\n<urn:al4> <urn:by> <urn:ar2> .
-";
-
-/// Their classes.
-pub const THREE_CLASSES: &str = "<urn:al1> <urn:al2>\n<urn:al3> <urn:al4>\n<urn:ar1> <urn:ar2>\n";
+const TWO_OF_T: &[u8] = b"<urn:a> % <urn:T> .\n<urn:b> % <urn:T> .\n";
 
 static ROWS: [Row; 31] = [
     Row {
@@ -51,7 +40,7 @@ key album_by <urn:Album>\nentity ?y <urn:Artist>\nvalue $n\n?x <urn:name> $n\n?x
     },
     Row {
         about: "three keys, each on what the one before it joins",
-        graph: "\
+        graph: b"\
 <urn:a1> % <urn:A> .\n<urn:a2> % <urn:A> .\n<urn:a1> <urn:p> \"1\" .\n<urn:a2> <urn:p> \"1\" .
 <urn:b1> % <urn:B> .\n<urn:b2> % <urn:B> .\n<urn:b1> <urn:q> <urn:a1> .\n<urn:b2> <urn:q> <urn:a2> .
 <urn:c1> % <urn:C> .\n<urn:c2> % <urn:C> .\n<urn:c1> <urn:r> <urn:b1> .\n<urn:c2> <urn:r> <urn:b2> .
@@ -65,7 +54,7 @@ key a <urn:A>\nvalue $v\n?x <urn:p> $v\nend
     },
     Row {
         about: "two entity variables that only support each other",
-        graph: "\
+        graph: b"\
 <urn:a1> % <urn:A> .\n<urn:a2> % <urn:A> .\n<urn:a1> <urn:q> <urn:b1> .\n<urn:a2> <urn:q> <urn:b2> .
 <urn:b1> % <urn:B> .\n<urn:b2> % <urn:B> .\n<urn:b1> <urn:r> <urn:a1> .\n<urn:b2> <urn:r> <urn:a2> .
 ",
@@ -77,7 +66,7 @@ key b <urn:B>\nentity ?y <urn:A>\n?x <urn:r> ?y\nend
     },
     Row {
         about: "the same with a way in",
-        graph: "\
+        graph: b"\
 <urn:a1> % <urn:A> .\n<urn:a2> % <urn:A> .\n<urn:a1> <urn:q> <urn:b1> .\n<urn:a2> <urn:q> <urn:b2> .
 <urn:b1> % <urn:B> .\n<urn:b2> % <urn:B> .\n<urn:b1> <urn:r> <urn:a1> .\n<urn:b2> <urn:r> <urn:a2> .
 <urn:b1> <urn:p> \"1\" .\n<urn:b2> <urn:p> \"1\" .
@@ -91,7 +80,7 @@ key c <urn:B>\nvalue $v\n?x <urn:p> $v\nend
     },
     Row {
         about: "two keys that find one pair",
-        graph: "\
+        graph: b"\
 <urn:a> % <urn:T> .\n<urn:b> % <urn:T> .\n<urn:a> <urn:p> \"1\" .\n<urn:b> <urn:p> \"1\" .
 <urn:a> <urn:q> \"2\" .\n<urn:b> <urn:q> \"2\" .
 ",
@@ -103,13 +92,13 @@ key l <urn:T>\nvalue $v\n?x <urn:q> $v\nend
     },
     Row {
         about: "an entity variable whose two images are one node",
-        graph: "<urn:a> % <urn:T> .\n<urn:b> % <urn:T> .\n<urn:c> % <urn:C> .\n<urn:a> <urn:q> <urn:c> .\n<urn:b> <urn:q> <urn:c> .\n",
+        graph: b"<urn:a> % <urn:T> .\n<urn:b> % <urn:T> .\n<urn:c> % <urn:C> .\n<urn:a> <urn:q> <urn:c> .\n<urn:b> <urn:q> <urn:c> .\n",
         keys: b"key k <urn:T>\nentity ?y <urn:C>\n?x <urn:q> ?y\nend\n",
         out: "<urn:a> <urn:b>\n",
     },
     Row {
         about: "a wildcard that both sides share, and a side that has none",
-        graph: "\
+        graph: b"\
 <urn:a> % <urn:T> .\n<urn:b> % <urn:T> .\n<urn:d> % <urn:T> .\n<urn:c> % <urn:C> .
 <urn:a> <urn:q> <urn:c> .\n<urn:b> <urn:q> <urn:c> .\n<urn:d> <urn:q> \"c\" .
 ",
@@ -118,7 +107,7 @@ key l <urn:T>\nvalue $v\n?x <urn:q> $v\nend
     },
     Row {
         about: "a wildcard with two different images",
-        graph: "\
+        graph: b"\
 <urn:s1> % <urn:T> .\n<urn:s2> % <urn:T> .\n<urn:s1> <urn:p> \"1\" .\n<urn:s2> <urn:p> \"1\" .
 <urn:s1> <urn:made> <urn:m1> .\n<urn:s2> <urn:made> <urn:m2> .\n<urn:m1> % <urn:M> .\n<urn:m2> % <urn:M> .
 ",
@@ -127,7 +116,7 @@ key l <urn:T>\nvalue $v\n?x <urn:q> $v\nend
     },
     Row {
         about: "an entity variable in place of the wildcard",
-        graph: "\
+        graph: b"\
 <urn:s1> % <urn:T> .\n<urn:s2> % <urn:T> .\n<urn:s1> <urn:p> \"1\" .\n<urn:s2> <urn:p> \"1\" .
 <urn:s1> <urn:made> <urn:m1> .\n<urn:s2> <urn:made> <urn:m2> .\n<urn:m1> % <urn:M> .\n<urn:m2> % <urn:M> .
 ",
@@ -136,7 +125,7 @@ key l <urn:T>\nvalue $v\n?x <urn:q> $v\nend
     },
     Row {
         about: "a constant behind a wildcard",
-        graph: "\
+        graph: b"\
 <urn:a> % <urn:T> .\n<urn:b> % <urn:T> .\n<urn:c> % <urn:T> .\n<urn:m> % <urn:M> .\n<urn:n> % <urn:M> .\n<urn:o> % <urn:M> .
 <urn:a> <urn:made> <urn:m> .\n<urn:b> <urn:made> <urn:n> .\n<urn:c> <urn:made> <urn:o> .
 <urn:m> <urn:in> <urn:X> .\n<urn:n> <urn:in> <urn:X> .\n<urn:o> <urn:in> <urn:Y> .
@@ -146,7 +135,7 @@ key l <urn:T>\nvalue $v\n?x <urn:q> $v\nend
     },
     Row {
         about: "a constant that has the key's type: it is no image of `?x`",
-        graph: "\
+        graph: b"\
 <urn:a> % <urn:T> .\n<urn:b> % <urn:T> .\n<urn:c> % <urn:T> .
 <urn:a> <urn:q> <urn:a> .\n<urn:b> <urn:q> <urn:a> .\n<urn:c> <urn:q> <urn:a> .
 ",
@@ -155,7 +144,7 @@ key l <urn:T>\nvalue $v\n?x <urn:q> $v\nend
     },
     Row {
         about: "a constant stands for that very node, and not for its class",
-        graph: "\
+        graph: b"\
 <urn:a> % <urn:T> .\n<urn:b> % <urn:T> .\n<urn:a> <urn:q> <urn:c> .\n<urn:b> <urn:q> <urn:d> .
 <urn:c> % <urn:C> .\n<urn:d> % <urn:C> .\n<urn:c> <urn:p> \"1\" .\n<urn:d> <urn:p> \"1\" .
 ",
@@ -167,7 +156,7 @@ key l <urn:C>\nvalue $v\n?x <urn:p> $v\nend
     },
     Row {
         about: "a triple from a variable to itself",
-        graph: "\
+        graph: b"\
 <urn:a> % <urn:T> .\n<urn:b> % <urn:T> .\n<urn:c> % <urn:T> .\n<urn:a> <urn:q> <urn:a> .\n<urn:b> <urn:q> <urn:b> .
 <urn:c> <urn:q> <urn:a> .\n<urn:a> <urn:p> \"1\" .\n<urn:b> <urn:p> \"1\" .\n<urn:c> <urn:p> \"1\" .
 ",
@@ -176,7 +165,7 @@ key l <urn:C>\nvalue $v\n?x <urn:p> $v\nend
     },
     Row {
         about: "two triples between the same nodes",
-        graph: "\
+        graph: b"\
 <urn:a> % <urn:T> .\n<urn:b> % <urn:T> .\n<urn:c> % <urn:T> .\n<urn:a> <urn:p> \"1\" .\n<urn:b> <urn:p> \"1\" .\n<urn:c> <urn:p> \"1\" .
 <urn:a> <urn:q> \"1\" .\n<urn:b> <urn:q> \"1\" .\n<urn:c> <urn:q> \"2\" .
 ",
@@ -185,7 +174,7 @@ key l <urn:C>\nvalue $v\n?x <urn:p> $v\nend
     },
     Row {
         about: "two wildcards need two nodes on each side",
-        graph: "\
+        graph: b"\
 <urn:a> % <urn:T> .\n<urn:b> % <urn:T> .\n<urn:c> % <urn:T> .\n<urn:m> % <urn:M> .\n<urn:n> % <urn:M> .
 <urn:a> <urn:made> <urn:m> .\n<urn:a> <urn:made> <urn:n> .\n<urn:b> <urn:made> <urn:m> .
 <urn:c> <urn:made> <urn:n> .\n<urn:c> <urn:made> <urn:m> .
@@ -195,7 +184,7 @@ key l <urn:C>\nvalue $v\n?x <urn:p> $v\nend
     },
     Row {
         about: "two values under one predicate",
-        graph: "\
+        graph: b"\
 <urn:a> % <urn:T> .\n<urn:b> % <urn:T> .\n<urn:c> % <urn:T> .\n<urn:a> <urn:p> \"1\" .\n<urn:a> <urn:p> \"2\" .
 <urn:b> <urn:p> \"2\" .\n<urn:b> <urn:p> \"1\" .\n<urn:c> <urn:p> \"1\" .\n<urn:c> <urn:p> \"3\" .
 ",
@@ -204,7 +193,7 @@ key l <urn:C>\nvalue $v\n?x <urn:p> $v\nend
     },
     Row {
         about: "an entity of two types, matched by each of them",
-        graph: "\
+        graph: b"\
 <urn:a> % <urn:T> .\n<urn:a> % <urn:U> .\n<urn:b> % <urn:T> .\n<urn:c> % <urn:U> .
 <urn:a> <urn:p> \"1\" .\n<urn:b> <urn:p> \"1\" .\n<urn:a> <urn:q> \"2\" .\n<urn:c> <urn:q> \"2\" .
 ",
@@ -216,7 +205,7 @@ key l <urn:U>\nvalue $v\n?x <urn:q> $v\nend
     },
     Row {
         about: "what is joined by way of a third is joined",
-        graph: "\
+        graph: b"\
 <urn:a> % <urn:T> .\n<urn:b> % <urn:T> .\n<urn:c> % <urn:T> .\n<urn:d> % <urn:D> .\n<urn:e> % <urn:D> .
 <urn:a> <urn:p> \"1\" .\n<urn:b> <urn:p> \"1\" .\n<urn:b> <urn:q> \"2\" .\n<urn:c> <urn:q> \"2\" .
 <urn:d> <urn:r> \"3\" .\n<urn:e> <urn:r> \"3\" .\n<urn:d> <urn:at> <urn:a> .\n<urn:e> <urn:at> <urn:c> .
@@ -230,7 +219,7 @@ key m <urn:D>\nentity ?y <urn:T>\nvalue $v\n?x <urn:r> $v\n?x <urn:at> ?y\nend
     },
     Row {
         about: "a key with a predicate that the graph lacks, beside one that matches; labels with dots and colons",
-        graph: "\
+        graph: b"\
 <urn:z> % <urn:T> .\n_:b.1 % <urn:T> .\n_::x % <urn:T> .\n<urn:z> <urn:p> \"1\" .\n_:b.1 <urn:p> \"1\" .\n_::x <urn:p> \"1\" .
 ",
         keys: b"\
@@ -241,31 +230,31 @@ key kc <urn:T>\n?x <urn:q> <urn:absent>\nend
     },
     Row {
         about: "folded values",
-        graph: "\
+        graph: b"\
 <urn:u1> % <urn:T> .\n<urn:u2> % <urn:T> .\n<urn:u3> % <urn:T> .
-<urn:u1> <urn:p> \"Straße\" .\n<urn:u2> <urn:p> \"STRASSE\" .\n<urn:u3> <urn:p> \"strasse\"@de .
+<urn:u1> <urn:p> \"Stra\xC3\x9Fe\" .\n<urn:u2> <urn:p> \"STRASSE\" .\n<urn:u3> <urn:p> \"strasse\"@de .
 ",
         keys: b"key k <urn:T>\nfolded $v\n?x <urn:p> $v\nend\n",
         out: "<urn:u1> <urn:u2>\n",
     },
     Row {
         about: "the same as values",
-        graph: "\
+        graph: b"\
 <urn:u1> % <urn:T> .\n<urn:u2> % <urn:T> .\n<urn:u3> % <urn:T> .
-<urn:u1> <urn:p> \"Straße\" .\n<urn:u2> <urn:p> \"STRASSE\" .\n<urn:u3> <urn:p> \"strasse\"@de .
+<urn:u1> <urn:p> \"Stra\xC3\x9Fe\" .\n<urn:u2> <urn:p> \"STRASSE\" .\n<urn:u3> <urn:p> \"strasse\"@de .
 ",
         keys: BY_P,
         out: "",
     },
     Row {
         about: "an entity without the type",
-        graph: "<urn:a> % <urn:T> .\n<urn:a> <urn:p> \"1\" .\n<urn:b> <urn:p> \"1\" .\n",
+        graph: b"<urn:a> % <urn:T> .\n<urn:a> <urn:p> \"1\" .\n<urn:b> <urn:p> \"1\" .\n",
         keys: BY_P,
         out: "",
     },
     Row {
         about: "a triple that leads to `?x`",
-        graph: "\
+        graph: b"\
 <urn:a> % <urn:T> .\n<urn:b> % <urn:T> .\n<urn:y> % <urn:Y> .\n<urn:z> % <urn:Y> .\n<urn:y> <urn:has> <urn:a> .\n<urn:z> <urn:has> <urn:b> .
 <urn:y> <urn:p> \"1\" .\n<urn:z> <urn:p> \"1\" .
 ",
@@ -277,7 +266,7 @@ key l <urn:Y>\nvalue $v\n?x <urn:p> $v\nend
     },
     Row {
         about: "a literal as constant",
-        graph: "\
+        graph: b"\
 <urn:a> % <urn:T> .\n<urn:b> % <urn:T> .\n<urn:c> % <urn:T> .\n<urn:a> <urn:p> \"1\" .\n<urn:b> <urn:p> \"1\" .\n<urn:c> <urn:p> \"1\"@en .
 <urn:a> <urn:q> \"2\" .\n<urn:b> <urn:q> \"2\" .\n<urn:c> <urn:q> \"2\" .
 ",
@@ -286,7 +275,7 @@ key l <urn:Y>\nvalue $v\n?x <urn:p> $v\nend
     },
     Row {
         about: "integers that are written in two ways are two literals",
-        graph: "\
+        graph: b"\
 <urn:a> % <urn:T> .\n<urn:b> % <urn:T> .\n<urn:a> <urn:p> \"1\"^^<urn:int> .\n<urn:b> <urn:p> \"01\"^^<urn:int> .
 ",
         keys: BY_P,
@@ -294,7 +283,7 @@ key l <urn:Y>\nvalue $v\n?x <urn:p> $v\nend
     },
     Row {
         about: "`rdf:type` as a triple of the key",
-        graph: "\
+        graph: b"\
 <urn:a> % <urn:T> .\n<urn:b> % <urn:T> .\n<urn:c> % <urn:T> .\n<urn:a> % <urn:U> .\n<urn:b> % <urn:U> .
 <urn:a> <urn:p> \"1\" .\n<urn:b> <urn:p> \"1\" .\n<urn:c> <urn:p> \"1\" .
 ",
@@ -303,13 +292,13 @@ key l <urn:Y>\nvalue $v\n?x <urn:p> $v\nend
     },
     Row {
         about: "a value variable takes no IRI",
-        graph: "<urn:a> % <urn:T> .\n<urn:b> % <urn:T> .\n<urn:a> <urn:p> <urn:c> .\n<urn:b> <urn:p> <urn:c> .\n",
+        graph: b"<urn:a> % <urn:T> .\n<urn:b> % <urn:T> .\n<urn:a> <urn:p> <urn:c> .\n<urn:b> <urn:p> <urn:c> .\n",
         keys: BY_P,
         out: "",
     },
     Row {
         about: "two classes that a later pair joins into one",
-        graph: "\
+        graph: b"\
 <urn:a> % <urn:T> .\n<urn:b> % <urn:T> .\n<urn:c> % <urn:T> .\n<urn:d> % <urn:T> .
 <urn:a> <urn:p> \"1\" .\n<urn:b> <urn:p> \"1\" .\n<urn:c> <urn:p> \"2\" .\n<urn:d> <urn:p> \"2\" .
 <urn:b> <urn:q> <urn:e> .\n<urn:c> <urn:q> <urn:f> .\n<urn:e> % <urn:E> .\n<urn:f> % <urn:E> .
@@ -324,7 +313,7 @@ key m <urn:T>\nentity ?y <urn:E>\n?x <urn:q> ?y\nend
     },
     Row {
         about: "an entity variable that is `?x` of the other side is another node",
-        graph: "<urn:a> % <urn:T> .\n<urn:b> % <urn:T> .\n<urn:a> <urn:q> <urn:b> .\n<urn:b> <urn:q> <urn:a> .\n",
+        graph: b"<urn:a> % <urn:T> .\n<urn:b> % <urn:T> .\n<urn:a> <urn:q> <urn:b> .\n<urn:b> <urn:q> <urn:a> .\n",
         keys: b"key k <urn:T>\nentity ?y <urn:T>\n?x <urn:q> ?y\nend\n",
         out: "",
     },
@@ -374,52 +363,54 @@ pub fn reversed(alloc: Global, text: &[u8]) -> Result<Vec<u8>, NoMemory> {
 }
 
 /// Whether a run over a graph and keys prints this.
-fn prints<'a, R: AllocGlobal + Threads + Wait + Sync>(
+fn prints<'a, R: AllocGlobal + Threads + Wait + Sync + Abort>(
     rt: &R,
     graph: &'a [u8],
     keys: &'a [u8],
     out: &'a str,
-) -> Result<bool, Fail> {
+) -> bool {
     let case = Case {
         graph,
         keys,
         out: out.as_bytes(),
-        ..GOOD
+        ..good()
     };
     holds(rt, &case)
 }
 
 /// Whether a graph and keys lead to these classes, with the graph's lines in order and in reverse order.
-fn row_holds<R: AllocGlobal + Threads + Wait + Sync>(
+fn row_holds<R: AllocGlobal + Threads + Wait + Sync + Abort>(
     rt: &R,
-    graph: &str,
+    graph: &[u8],
     keys: &[u8],
     out: &str,
-) -> Result<bool, Fail> {
-    let graph = with_types(rt.alloc(), graph.as_bytes())?;
-    let keys = with_types(rt.alloc(), keys)?;
-    let turned = reversed(rt.alloc(), &graph)?;
-    Ok(prints(rt, &graph, &keys, out)? && prints(rt, &turned, &keys, out)?)
+) -> bool {
+    let graph = with_types(rt.alloc(), graph).expect(rt, ENOUGH);
+    let keys = with_types(rt.alloc(), keys).expect(rt, ENOUGH);
+    let turned = reversed(rt.alloc(), &graph).expect(rt, ENOUGH);
+    prints(rt, &graph, &keys, out) && prints(rt, &turned, &keys, out)
+}
+
+fn rows() -> &'static [Row] {
+    &ROWS
 }
 
 #[test]
-fn classes_are_those_of_the_keys(rt: HostRuntime) -> Result<(), Fail> {
-    for row in &ROWS {
+fn classes_are_those_of_the_keys(rt: HostRuntime) {
+    for row in rows() {
         assert!(rt;
-            row_holds(&rt, row.graph, row.keys, row.out)?,
+            row_holds(&rt, row.graph, row.keys, row.out),
             "{}",
             row.about
         );
     }
-    Ok(())
 }
 
 #[test]
-fn candidate_pairs_are_counted_against_the_limit(rt: HostRuntime) -> Result<(), Fail> {
-    let graph = with_types(rt.alloc(), ALBUMS_AND_ARTISTS.as_bytes())?;
+fn candidate_pairs_are_counted_against_the_limit(rt: HostRuntime) {
     let few = Case {
-        graph: &graph,
-        keys: ALBUM_AND_ARTIST_KEYS,
+        graph: albums_and_artists(),
+        keys: album_and_artist_keys(),
         limits: Limits {
             pairs: 2,
             ..Limits::STANDARD
@@ -427,53 +418,57 @@ fn candidate_pairs_are_counted_against_the_limit(rt: HostRuntime) -> Result<(), 
         status: 2,
         out: b"",
         err: "pairs: more than 2\n",
-        ..GOOD
+        ..good()
     };
-    assert!(rt; holds(&rt, &few)?);
+    assert!(rt; holds(&rt, &few));
     let enough = Case {
         limits: Limits {
             pairs: 3,
             ..Limits::STANDARD
         },
         status: 0,
-        out: THREE_CLASSES.as_bytes(),
+        out: three_classes().as_bytes(),
         err: "",
         ..few
     };
-    assert!(rt; holds(&rt, &enough)?);
-    Ok(())
+    assert!(rt; holds(&rt, &enough));
 }
 
 const WITH_WILDCARDS: &str =
     "key k <urn:T>\nvalue $v\nany _w <urn:M>\nany _z <urn:M>\n?x <urn:p> $v\n_w <urn:q> _z\nend\n";
 
+/// Keys that are refused, and how.
+static REFUSALS: [(&str, &str); 5] = [
+    (
+        "key k <urn:T>\nvalue $v\n",
+        "keys:2: file ends inside a key\n",
+    ),
+    (WITH_WILDCARDS, "keys:7: not connected\n"),
+    (
+        "key k <urn:T>\nvalue $v\nany _w <urn:M>\nany _z <urn:M>\n?x <urn:p> $v\nend\n",
+        "keys:6: variable not used\n",
+    ),
+    (
+        "key k <urn:T>\nvalue $v\nfolded $v\n",
+        "keys:3: variable declared twice\n",
+    ),
+    ("key k <T>\n", "keys:1: relative IRI\n"),
+];
+
+fn refusals() -> &'static [(&'static str, &'static str)] {
+    &REFUSALS
+}
+
 #[test]
-fn refused_keys_name_their_first_line(rt: HostRuntime) -> Result<(), Fail> {
-    let refused = [
-        (
-            "key k <urn:T>\nvalue $v\n",
-            "keys:2: file ends inside a key\n",
-        ),
-        (WITH_WILDCARDS, "keys:7: not connected\n"),
-        (
-            "key k <urn:T>\nvalue $v\nany _w <urn:M>\nany _z <urn:M>\n?x <urn:p> $v\nend\n",
-            "keys:6: variable not used\n",
-        ),
-        (
-            "key k <urn:T>\nvalue $v\nfolded $v\n",
-            "keys:3: variable declared twice\n",
-        ),
-        ("key k <T>\n", "keys:1: relative IRI\n"),
-    ];
-    for (row, (keys, err)) in refused.into_iter().enumerate() {
+fn refused_keys_name_their_first_line(rt: HostRuntime) {
+    for (row, (keys, err)) in refusals().iter().enumerate() {
         let case = Case {
             keys: keys.as_bytes(),
             status: 2,
             out: b"",
             err,
-            ..GOOD
+            ..good()
         };
-        assert!(rt; holds(&rt, &case)?, "row {row}");
+        assert!(rt; holds(&rt, &case), "row {row}");
     }
-    Ok(())
 }

@@ -7,11 +7,9 @@
 //! - `proofs`: proofs that are made, checked and converted
 //! - `proof_files`: proof files that are refused or can't be read
 //! - `workers`: chases with one worker and with many, and what passes their gates
-//! - `gates`: gates that count, and gates at which workers meet
+//! - `texts`: texts that several of them run on
 #![tactic(auto)]
 
-#[cfg(test)]
-mod gates;
 #[cfg(test)]
 mod graphs;
 #[cfg(test)]
@@ -22,5 +20,7 @@ mod proof_files;
 mod proofs;
 #[cfg(test)]
 mod runs;
+#[cfg(test)]
+mod texts;
 #[cfg(test)]
 mod workers;

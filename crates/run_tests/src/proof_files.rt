@@ -1,140 +1,103 @@
 //! Runs over proof files that are refused or can't be read, in their place among the files of a command.
 
-use crate::proofs::{ALBUM_PROOF, CHECK, CONVERT};
-use crate::runs::{Case, GOOD, holds};
+use crate::proofs::{CHECK, CONVERT, album_proof};
+use crate::runs::{Case, good, holds};
+use crate::texts::albums;
 use fixtures::texts::{ALBUM_KEY, ALBUMS};
 use gk_base::Limits;
-use std::test::Fail;
 
 /// A check of the albums.
 fn checked() -> Case<'static> {
     Case {
         words: CHECK,
-        graph: ALBUMS,
-        proof: ALBUM_PROOF.as_bytes(),
+        graph: albums(),
+        proof: album_proof(),
         out: b"accepted 1\n",
-        ..GOOD
+        ..good()
     }
 }
 
+/// A run that is refused.
+fn refused<'a>(proof: &'a [u8], err: &'a str) -> Case<'a> {
+    Case {
+        proof,
+        status: 2,
+        out: b"",
+        err,
+        ..checked()
+    }
+}
+
+/// Graphs with keys, and how a check is refused whose proof file has a bad line.
+static REFUSALS: [(&[u8], &[u8], &str); 3] = [
+    (b"<a>", b"x", "graph:1: relative IRI\n"),
+    (ALBUMS, b"x", "keys:1: unknown statement\n"),
+    (ALBUMS, ALBUM_KEY, "proof:2: bad line\n"),
+];
+
+fn refusals() -> &'static [(&'static [u8], &'static [u8], &'static str)] {
+    &REFUSALS
+}
+
 #[test]
-fn a_proof_file_comes_last(rt: HostRuntime) -> Result<(), Fail> {
-    let refused = [
-        (
-            b"<a>".as_slice(),
-            b"x".as_slice(),
-            "graph:1: relative IRI\n",
-        ),
-        (ALBUMS, b"x", "keys:1: unknown statement\n"),
-        (ALBUMS, ALBUM_KEY, "proof:2: bad line\n"),
-    ];
-    for (row, (graph, keys, err)) in refused.into_iter().enumerate() {
+fn a_proof_file_comes_last(rt: HostRuntime) {
+    for (row, (graph, keys, err)) in refusals().iter().enumerate() {
         let case = Case {
             graph,
             keys,
-            proof: b"gkey-proof 1\nx",
-            status: 2,
-            out: b"",
-            err,
-            ..checked()
+            ..refused(b"gkey-proof 1\nx", err)
         };
-        assert!(rt; holds(&rt, &case)?, "row {row}");
+        assert!(rt; holds(&rt, &case), "row {row}");
     }
     let early = Case {
         words: CONVERT,
-        proof: b"gkey-proof 1\n",
-        status: 2,
-        out: b"",
-        err: "proof:1: proof ends early\n",
-        ..checked()
+        ..refused(b"gkey-proof 1\n", "proof:1: proof ends early\n")
     };
-    assert!(rt; holds(&rt, &early)?);
+    assert!(rt; holds(&rt, &early));
     let long = Case {
         words: CONVERT,
         limits: Limits {
             bytes: 10,
             ..Limits::STANDARD
         },
-        status: 2,
-        out: b"",
-        err: "proof:1: file too long\n",
-        ..checked()
+        ..refused(album_proof(), "proof:1: file too long\n")
     };
-    assert!(rt; holds(&rt, &long)?);
-    Ok(())
+    assert!(rt; holds(&rt, &long));
 }
 
-#[test]
-fn a_proof_file_that_can_not_be_read_is_named(rt: HostRuntime) -> Result<(), Fail> {
-    let unread = Case {
+/// A run that can't read its proof file.
+fn unread<'a>(words: &'a [&'a str], reads: &'a [u64]) -> Case<'a> {
+    Case {
+        words,
+        reads,
         status: 3,
         out: b"",
         err: "proof: read failed\n",
         ..checked()
-    };
-    for call in 7u64..10 {
-        assert!(rt;
-            holds(
-                &rt,
-                &Case {
-                    reads: &[call],
-                    ..unread
-                }
-            )?,
-            "call {call}"
-        );
     }
-    assert!(rt;
-        holds(
-            &rt,
-            &Case {
-                words: &["check", "g", "k", "none"],
-                ..unread
-            }
-        )?
-    );
+}
+
+#[test]
+fn a_proof_file_that_can_not_be_read_is_named(rt: HostRuntime) {
+    for call in 7u64..10 {
+        assert!(rt; holds(&rt, &unread(CHECK, &[call])), "call {call}");
+    }
+    assert!(rt; holds(&rt, &unread(&["check", "g", "k", "none"], &[])));
     for call in 1u64..4 {
-        assert!(rt;
-            holds(
-                &rt,
-                &Case {
-                    words: CONVERT,
-                    reads: &[call],
-                    ..unread
-                }
-            )?,
-            "call {call}"
-        );
+        assert!(rt; holds(&rt, &unread(CONVERT, &[call])), "call {call}");
     }
     // It makes these three calls and no other: no other file is touched.
-    assert!(rt;
-        holds(
-            &rt,
-            &Case {
-                words: CONVERT,
-                reads: &[4],
-                out: ALBUM_PROOF.as_bytes(),
-                ..checked()
-            }
-        )?
-    );
-    assert!(rt;
-        holds(
-            &rt,
-            &Case {
-                words: &["convert", "none"],
-                ..unread
-            }
-        )?
-    );
-    assert!(rt;
-        holds(
-            &rt,
-            &Case {
-                reads: &[10],
-                ..checked()
-            }
-        )?
-    );
-    Ok(())
+    let converted = Case {
+        words: CONVERT,
+        reads: &[4],
+        out: album_proof(),
+        ..checked()
+    };
+    assert!(rt; holds(&rt, &converted));
+    assert!(rt; holds(&rt, &unread(&["convert", "none"], &[])));
+    let last = Case {
+        reads: &[10],
+        ..checked()
+    };
+    assert!(rt; holds(&rt, &last));
 }

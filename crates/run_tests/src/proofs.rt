@@ -1,10 +1,13 @@
 //! Proofs that are made, checked and converted. In graphs and keys `%` stands for `rdf:type`.
 
-use crate::keys::{ALBUMS_AND_ARTISTS, with_types};
-use crate::runs::{Case, GOOD, holds};
-use fixtures::texts::{ALBUM_AND_ARTIST_KEYS, ALBUM_KEY};
+use crate::keys::with_types;
+use crate::runs::{Case, ENOUGH, good, holds};
+use crate::texts::{album_and_artist_keys, albums_and_artists};
+use fixtures::texts::{ALBUM_AND_ARTIST_KEYS, ALBUM_KEY, ALBUMS, ALBUMS_AND_ARTISTS};
+use gk_base::NoMemory;
+use std::alloc::Global;
+use std::process::Abort;
 use std::sync::Wait;
-use std::test::Fail;
 use std::thread::Threads;
 
 /// The proof that two albums with one name and one year are the same, in version 1.
@@ -18,7 +21,7 @@ end 1
 ";
 
 /// The same in version 2.
-pub const ALBUM_PROOF: &str = "\
+const ALBUM_PROOF: &str = "\
 gkey-proof 2
 terms 4
 <urn:al1>
@@ -89,19 +92,14 @@ end 3
 #[derive(Clone, Copy)]
 struct Row {
     words: &'static [&'static str],
-    graph: &'static str,
+    graph: &'static [u8],
     keys: &'static [u8],
     proof: &'static str,
     status: u8,
     out: &'static str,
 }
 
-const ALBUM_LINES: &str = "\
-<urn:al1> % <urn:Album> .\n<urn:al2> % <urn:Album> .\n<urn:al1> <urn:name> \"Anthology 2\" .\n<urn:al2> <urn:name> \"Anthology 2\" .
-<urn:al1> <urn:year> \"1996\" .\n<urn:al2> <urn:year> \"1996\" .
-";
-
-const OTHER_YEAR: &str = "\
+const OTHER_YEAR: &[u8] = b"\
 <urn:al1> % <urn:Album> .\n<urn:al2> % <urn:Album> .\n<urn:al1> <urn:name> \"Anthology 2\" .\n<urn:al2> <urn:name> \"Anthology 2\" .
 <urn:al1> <urn:year> \"1996\" .\n<urn:al2> <urn:year> \"1996\" .\n<urn:al1> <urn:year> \"Anthology 2\" .
 ";
@@ -111,9 +109,9 @@ const YEAR_KEY: &[u8] = b"key c <urn:Album>\n?x <urn:year> \"1996\"\nend\n";
 const YEAR_PROOF: &str =
     "gkey-proof 1\nstep c\nleft <urn:al1> \"Anthology 2\"\nright <urn:al2> \"1996\"\ndone\nend 1\n";
 
-const STREETS: &str = "\
+const STREETS: &[u8] = b"\
 <urn:u1> % <urn:T> .\n<urn:u2> % <urn:T> .\n<urn:u3> % <urn:T> .
-<urn:u1> <urn:p> \"Straße\" .\n<urn:u2> <urn:p> \"STRASSE\" .\n<urn:u3> <urn:p> \"strasse\"@de .
+<urn:u1> <urn:p> \"Stra\xC3\x9Fe\" .\n<urn:u2> <urn:p> \"STRASSE\" .\n<urn:u3> <urn:p> \"strasse\"@de .
 ";
 
 const FOLDED_KEY: &[u8] = b"key k <urn:T>\nfolded $v\n?x <urn:p> $v\nend\n";
@@ -125,6 +123,11 @@ const STREET_PROOF: &str =
 
 const PROVE: &[&str] = &["prove", "g", "k"];
 
+/// The proof of the two albums.
+pub fn album_proof() -> &'static [u8] {
+    ALBUM_PROOF.as_bytes()
+}
+
 /// Check the proof `p` of the graph `g` and the keys `k`.
 pub const CHECK: &[&str] = &["check", "g", "k", "p"];
 
@@ -134,7 +137,7 @@ pub const CONVERT: &[&str] = &["convert", "p"];
 static ROWS: [Row; 14] = [
     Row {
         words: PROVE,
-        graph: ALBUM_LINES,
+        graph: ALBUMS,
         keys: ALBUM_KEY,
         proof: "",
         status: 0,
@@ -142,7 +145,7 @@ static ROWS: [Row; 14] = [
     },
     Row {
         words: PROVE,
-        graph: "",
+        graph: b"",
         keys: ALBUM_KEY,
         proof: "",
         status: 0,
@@ -150,7 +153,7 @@ static ROWS: [Row; 14] = [
     },
     Row {
         words: CHECK,
-        graph: "",
+        graph: b"",
         keys: ALBUM_KEY,
         proof: NO_STEPS,
         status: 0,
@@ -158,7 +161,7 @@ static ROWS: [Row; 14] = [
     },
     Row {
         words: CHECK,
-        graph: ALBUM_LINES,
+        graph: ALBUMS,
         keys: ALBUM_KEY,
         proof: ALBUM_PROOF,
         status: 0,
@@ -166,7 +169,7 @@ static ROWS: [Row; 14] = [
     },
     Row {
         words: CHECK,
-        graph: ALBUM_LINES,
+        graph: ALBUMS,
         keys: ALBUM_KEY,
         proof: ALBUM_PROOF_1,
         status: 0,
@@ -190,7 +193,7 @@ static ROWS: [Row; 14] = [
     },
     Row {
         words: CHECK,
-        graph: ALBUM_LINES,
+        graph: ALBUMS,
         keys: YEAR_KEY,
         proof: YEAR_PROOF,
         status: 1,
@@ -222,7 +225,7 @@ static ROWS: [Row; 14] = [
     },
     Row {
         words: CONVERT,
-        graph: "",
+        graph: b"",
         keys: b"",
         proof: ALBUM_PROOF_1,
         status: 0,
@@ -230,7 +233,7 @@ static ROWS: [Row; 14] = [
     },
     Row {
         words: CONVERT,
-        graph: "",
+        graph: b"",
         keys: b"",
         proof: THREE_STEPS_1,
         status: 0,
@@ -238,7 +241,7 @@ static ROWS: [Row; 14] = [
     },
     Row {
         words: CONVERT,
-        graph: "x",
+        graph: b"x",
         keys: b"x",
         proof: THREE_STEPS,
         status: 0,
@@ -255,14 +258,14 @@ struct Left<'a> {
 }
 
 /// Whether a command leaves this of a graph, keys and a proof.
-fn leaves<'a, R: AllocGlobal + Threads + Wait + Sync>(
+fn leaves<'a, R: AllocGlobal + Threads + Wait + Sync + Abort>(
     rt: &R,
     words: &'a [&'a str],
     graph: &'a [u8],
     keys: &'a [u8],
     proof: &'a [u8],
     left: Left<'a>,
-) -> Result<bool, Fail> {
+) -> bool {
     let case = Case {
         words,
         graph,
@@ -271,14 +274,14 @@ fn leaves<'a, R: AllocGlobal + Threads + Wait + Sync>(
         status: left.status,
         out: left.out.as_bytes(),
         err: left.err,
-        ..GOOD
+        ..good()
     };
     holds(rt, &case)
 }
 
 /// Whether a command leaves this of a graph, keys and a proof.
-fn row_holds<R: AllocGlobal + Threads + Wait + Sync>(rt: &R, row: &Row) -> Result<bool, Fail> {
-    let graph = with_types(rt.alloc(), row.graph.as_bytes())?;
+fn row_holds<R: AllocGlobal + Threads + Wait + Sync + Abort>(rt: &R, row: &Row) -> bool {
+    let graph = with_types(rt.alloc(), row.graph).expect(rt, ENOUGH);
     let left = Left {
         status: row.status,
         out: row.out,
@@ -287,12 +290,15 @@ fn row_holds<R: AllocGlobal + Threads + Wait + Sync>(rt: &R, row: &Row) -> Resul
     leaves(rt, row.words, &graph, row.keys, row.proof.as_bytes(), left)
 }
 
+fn rows() -> &'static [Row] {
+    &ROWS
+}
+
 #[test]
-fn proofs_are_made_checked_and_converted(rt: HostRuntime) -> Result<(), Fail> {
-    for (row, expected) in ROWS.iter().enumerate() {
-        assert!(rt; row_holds(&rt, expected)?, "row {row}");
+fn proofs_are_made_checked_and_converted(rt: HostRuntime) {
+    for (row, expected) in rows().iter().enumerate() {
+        assert!(rt; row_holds(&rt, expected), "row {row}");
     }
-    Ok(())
 }
 
 /// A line of a proof, what stands in its place, and what a command then leaves.
@@ -415,8 +421,8 @@ static CHANGED: [Changed; 14] = [
 ];
 
 /// The text with this line changed.
-fn with_line<R: AllocGlobal>(rt: &R, text: &str, old: &str, new: &str) -> Result<Vec<u8>, Fail> {
-    let mut changed = Vec::new(rt.alloc());
+fn with_line(alloc: Global, text: &str, old: &str, new: &str) -> Result<Vec<u8>, NoMemory> {
+    let mut changed = Vec::new(alloc);
     for line in text.lines() {
         let kept = if line == old { new } else { line };
         changed.extend_from_slice(kept.as_bytes())?;
@@ -426,24 +432,30 @@ fn with_line<R: AllocGlobal>(rt: &R, text: &str, old: &str, new: &str) -> Result
 }
 
 /// Whether a command leaves this where the line is changed.
-fn change_holds<R: AllocGlobal + Threads + Wait + Sync>(
-    rt: &R,
-    row: &Changed,
-) -> Result<bool, Fail> {
-    let graph = with_types(rt.alloc(), ALBUMS_AND_ARTISTS.as_bytes())?;
-    let proof = with_line(rt, row.proof, row.old, row.new)?;
+fn change_holds<R: AllocGlobal + Threads + Wait + Sync + Abort>(rt: &R, row: &Changed) -> bool {
+    let proof = with_line(rt.alloc(), row.proof, row.old, row.new).expect(rt, ENOUGH);
     let left = Left {
         status: row.status,
         out: row.out,
         err: row.err,
     };
-    leaves(rt, row.words, &graph, ALBUM_AND_ARTIST_KEYS, &proof, left)
+    leaves(
+        rt,
+        row.words,
+        albums_and_artists(),
+        album_and_artist_keys(),
+        &proof,
+        left,
+    )
+}
+
+fn changes() -> &'static [Changed] {
+    &CHANGED
 }
 
 #[test]
-fn the_first_step_that_fails_is_named_with_its_reason(rt: HostRuntime) -> Result<(), Fail> {
-    for (row, expected) in CHANGED.iter().enumerate() {
-        assert!(rt; change_holds(&rt, expected)?, "row {row}");
+fn the_first_step_that_fails_is_named_with_its_reason(rt: HostRuntime) {
+    for (row, expected) in changes().iter().enumerate() {
+        assert!(rt; change_holds(&rt, expected), "row {row}");
     }
-    Ok(())
 }

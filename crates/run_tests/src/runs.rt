@@ -1,11 +1,13 @@
 //! Runs over files in memory, the two albums above all: words, limits, and devices that fail.
 
+use crate::texts::{ONE_VALUE, album_key, albums};
 use fixtures::texts::{ALBUM_KEY, ALBUMS};
-use gk_base::{Limits, Text};
+use gk_base::{Limits, NoMemory, Text};
 use gk_io::{MemShelf, MemSink, SureShelf, SureSink};
 use gkey_cmd::{run, run_gated};
+use std::alloc::Global;
+use std::process::Abort;
 use std::sync::Wait;
-use std::test::Fail;
 use std::thread::Threads;
 use steal_pool::OpenGate;
 
@@ -21,9 +23,6 @@ const TWO_TYPES: &[u8] = b"\
 <urn:f> <urn:q> \"1\" .
 <urn:g> <urn:q> \"1\" .
 ";
-
-/// A key of one value.
-pub const ONE_VALUE: &[u8] = b"key k <urn:T>\nvalue $v\n?x <urn:p> $v\nend\n";
 
 const TWO_VALUES: &[u8] = b"key k <urn:T>\nvalue $v\nvalue $w\n?x <urn:p> $v\n?x <urn:q> $w\nend\n";
 
@@ -73,7 +72,7 @@ pub struct Case<'a> {
     pub err: &'a str,
 }
 
-/// Two albums with the same name and year.
+/// Two albums with the same name and year, in constants. Functions take `good`, which shows their proofs none of its bytes.
 pub const GOOD: Case<'static> = Case {
     words: &["match", "g", "k"],
     graph: ALBUMS,
@@ -88,16 +87,45 @@ pub const GOOD: Case<'static> = Case {
     err: "",
 };
 
-/// The text of these bytes.
-pub fn text<R: AllocGlobal>(rt: &R, text: &str) -> Result<Text, Fail> {
-    Ok(Text::from_bytes(rt.alloc(), text.as_bytes())?)
+/// The same.
+pub fn good() -> Case<'static> {
+    GOOD
 }
 
+/// The words of a run.
+pub fn words_of(alloc: Global, words: &[&str]) -> Result<Vec<Text>, NoMemory> {
+    let mut made = Vec::new(alloc);
+    for word in words {
+        made.push(Text::from_bytes(alloc, word.as_bytes())?)?;
+    }
+    Ok(made)
+}
+
+/// A file with its name.
+fn file(alloc: Global, name: &str, content: &[u8]) -> Result<(Text, Vec<u8>), NoMemory> {
+    let name = Text::from_bytes(alloc, name.as_bytes())?;
+    Ok((name, Vec::from_slice(alloc, content)?))
+}
+
+/// The files `g`, `k` and `p` of a run.
+pub fn files_of(
+    alloc: Global,
+    graph: &[u8],
+    keys: &[u8],
+    proof: &[u8],
+) -> Result<Vec<(Text, Vec<u8>)>, NoMemory> {
+    let mut files = Vec::new(alloc);
+    files.push(file(alloc, "g", graph)?)?;
+    files.push(file(alloc, "k", keys)?)?;
+    files.push(file(alloc, "p", proof)?)?;
+    Ok(files)
+}
+
+/// What a test ends with where there is no memory for it.
+pub const ENOUGH: &str = "enough memory";
+
 /// Whether the run leaves what it must.
-pub fn holds<R: AllocGlobal + Threads + Wait + Sync>(
-    rt: &R,
-    case: &Case<'_>,
-) -> Result<bool, Fail> {
+pub fn holds<R: AllocGlobal + Threads + Wait + Sync + Abort>(rt: &R, case: &Case<'_>) -> bool {
     let limits = case.limits;
     let standard = Limits::STANDARD;
     let within = limits.bytes <= standard.bytes
@@ -105,184 +133,184 @@ pub fn holds<R: AllocGlobal + Threads + Wait + Sync>(
         && limits.triples <= standard.triples
         && limits.pairs <= standard.pairs;
     if case.most == 0 || !within {
-        return Ok(false);
+        return false;
     }
-    let mut words = Vec::new(rt.alloc());
-    for word in case.words {
-        words.push(text(rt, word)?)?;
-    }
-    let mut files = Vec::new(rt.alloc());
-    files.push((text(rt, "g")?, case.graph.to_vec(rt.alloc())?))?;
-    files.push((text(rt, "k")?, case.keys.to_vec(rt.alloc())?))?;
-    files.push((text(rt, "p")?, case.proof.to_vec(rt.alloc())?))?;
-    let mut shelf = MemShelf::new(files, case.most, case.reads.to_vec(rt.alloc())?);
-    let mut out = MemSink::new(rt.alloc(), case.most, 1000, case.writes.to_vec(rt.alloc())?)?;
-    let mut err = MemSink::new(rt.alloc(), 1000, 1000, Vec::new(rt.alloc()))?;
+    let alloc = rt.alloc();
+    let words = words_of(alloc, case.words).expect(rt, ENOUGH);
+    let files = files_of(alloc, case.graph, case.keys, case.proof).expect(rt, ENOUGH);
+    let reads = case.reads.to_vec(alloc).expect(rt, ENOUGH);
+    let writes = case.writes.to_vec(alloc).expect(rt, ENOUGH);
+    let mut shelf = MemShelf::new(files, case.most, reads);
+    let mut out = MemSink::new(alloc, case.most, 1000, writes).expect(rt, ENOUGH);
+    let mut err = MemSink::new(alloc, 1000, 1000, Vec::new(alloc)).expect(rt, ENOUGH);
     let status = run_gated(
-        rt,
-        rt.alloc(),
-        &words,
-        &mut shelf,
-        &mut out,
-        &mut err,
-        &limits,
-        &OpenGate,
+        rt, alloc, &words, &mut shelf, &mut out, &mut err, &limits, &OpenGate,
     );
-    Ok(status == case.status && out.bytes() == case.out && err.bytes() == case.err.as_bytes())
+    status == case.status && out.bytes() == case.out && err.bytes() == case.err.as_bytes()
+}
+
+/// Graphs with keys, and what is printed.
+static ANSWERED: [(&[u8], &[u8], &str); 9] = [
+    (ALBUMS, ALBUM_KEY, "<urn:al1> <urn:al2>\n"),
+    (b"", ALBUM_KEY, ""),
+    (ALBUMS, b"", ""),
+    (ALBUMS, ONE_VALUE, ""),
+    (TWO_TYPES, ONE_VALUE, "<urn:f> <urn:g>\n"),
+    (TWO_TYPES, TWO_VALUES, ""),
+    (TWO_TYPES, TYPE_AS_VALUE, ""),
+    (ORDERED, ONE_VALUE, "<urn:a:1> <urn:a> <urn:b>\n"),
+    (
+        TWO_CLASSES,
+        ONE_VALUE,
+        "<urn:a:1> <urn:a>\n<urn:b> <urn:c>\n",
+    ),
+];
+
+fn answered() -> &'static [(&'static [u8], &'static [u8], &'static str)] {
+    &ANSWERED
 }
 
 #[test]
-fn matches_print_their_classes(rt: HostRuntime) -> Result<(), Fail> {
-    let answered = [
-        (ALBUMS, ALBUM_KEY, "<urn:al1> <urn:al2>\n"),
-        (b"", ALBUM_KEY, ""),
-        (ALBUMS, b"", ""),
-        (ALBUMS, ONE_VALUE, ""),
-        (TWO_TYPES, ONE_VALUE, "<urn:f> <urn:g>\n"),
-        (TWO_TYPES, TWO_VALUES, ""),
-        (TWO_TYPES, TYPE_AS_VALUE, ""),
-        (ORDERED, ONE_VALUE, "<urn:a:1> <urn:a> <urn:b>\n"),
-        (
-            TWO_CLASSES,
-            ONE_VALUE,
-            "<urn:a:1> <urn:a>\n<urn:b> <urn:c>\n",
-        ),
-    ];
-    for (row, (graph, keys, out)) in answered.into_iter().enumerate() {
+fn matches_print_their_classes(rt: HostRuntime) {
+    for (row, (graph, keys, out)) in answered().iter().enumerate() {
         let case = Case {
             graph,
             keys,
             out: out.as_bytes(),
-            ..GOOD
+            ..good()
         };
-        assert!(rt; holds(&rt, &case)?, "row {row}");
+        assert!(rt; holds(&rt, &case), "row {row}");
     }
-    assert!(rt; holds(&rt, &Case { most: 1, ..GOOD })?);
-    Ok(())
+    assert!(rt; holds(&rt, &Case { most: 1, ..good() }));
+}
+
+/// Limits, and how they refuse the albums.
+static LIMITED: [(Limits, &str); 4] = [
+    (
+        Limits {
+            bytes: 10,
+            ..Limits::STANDARD
+        },
+        "graph:1: file too long\n",
+    ),
+    (
+        Limits {
+            triples: 5,
+            ..Limits::STANDARD
+        },
+        "graph:6: too many triples\n",
+    ),
+    (
+        Limits {
+            key_bytes: 10,
+            ..Limits::STANDARD
+        },
+        "keys:1: file too long\n",
+    ),
+    (
+        Limits {
+            pairs: 0,
+            ..Limits::STANDARD
+        },
+        "pairs: more than 0\n",
+    ),
+];
+
+fn limited() -> &'static [(Limits, &'static str)] {
+    &LIMITED
 }
 
 #[test]
-fn limits_refuse_what_is_beyond_them(rt: HostRuntime) -> Result<(), Fail> {
-    let standard = Limits::STANDARD;
-    let limited = [
-        (
-            Limits {
-                bytes: 10,
-                ..standard
-            },
-            "graph:1: file too long\n",
-        ),
-        (
-            Limits {
-                triples: 5,
-                ..standard
-            },
-            "graph:6: too many triples\n",
-        ),
-        (
-            Limits {
-                key_bytes: 10,
-                ..standard
-            },
-            "keys:1: file too long\n",
-        ),
-        (
-            Limits {
-                pairs: 0,
-                ..standard
-            },
-            "pairs: more than 0\n",
-        ),
-    ];
-    for (row, (limits, err)) in limited.into_iter().enumerate() {
+fn limits_refuse_what_is_beyond_them(rt: HostRuntime) {
+    for (row, (limits, err)) in limited().iter().enumerate() {
         let case = Case {
-            limits,
+            limits: *limits,
             status: 2,
             out: b"",
             err,
-            ..GOOD
+            ..good()
         };
-        assert!(rt; holds(&rt, &case)?, "row {row}");
+        assert!(rt; holds(&rt, &case), "row {row}");
     }
     let enough = Limits {
         pairs: 1,
-        ..standard
+        ..Limits::STANDARD
     };
-    assert!(rt;
-        holds(
-            &rt,
-            &Case {
-                limits: enough,
-                ..GOOD
-            }
-        )?
-    );
-    Ok(())
+    let case = Case {
+        limits: enough,
+        ..good()
+    };
+    assert!(rt; holds(&rt, &case));
+}
+
+/// A run that can't read a file.
+fn unread<'a>(reads: &'a [u64], err: &'a str) -> Case<'a> {
+    Case {
+        reads,
+        status: 3,
+        out: b"",
+        err,
+        ..good()
+    }
 }
 
 #[test]
-fn failures_name_their_file(rt: HostRuntime) -> Result<(), Fail> {
+fn failures_name_their_file(rt: HostRuntime) {
     for call in 1u64..7 {
         let err = if call <= 3 {
             "graph: read failed\n"
         } else {
             "keys: read failed\n"
         };
-        let case = Case {
-            reads: &[call],
-            status: 3,
-            out: b"",
-            err,
-            ..GOOD
-        };
-        assert!(rt; holds(&rt, &case)?, "call {call}");
+        assert!(rt; holds(&rt, &unread(&[call], err)), "call {call}");
     }
-    assert!(rt;
-        holds(
-            &rt,
-            &Case {
-                reads: &[7],
-                ..GOOD
-            }
-        )?
-    );
+    let last = Case {
+        reads: &[7],
+        ..good()
+    };
+    assert!(rt; holds(&rt, &last));
     let missing = Case {
         words: &["match", "none", "k"],
-        status: 3,
-        out: b"",
-        err: "graph: read failed\n",
-        ..GOOD
+        ..unread(&[], "graph: read failed\n")
     };
-    assert!(rt; holds(&rt, &missing)?);
-    Ok(())
+    assert!(rt; holds(&rt, &missing));
+}
+
+/// Whether a run leaves what it must of which this call of a write fails, and each takes so many bytes at the most.
+fn leaves_a_front<R: AllocGlobal + Threads + Wait + Sync + Abort>(
+    rt: &R,
+    call: u64,
+    most: usize,
+) -> bool {
+    let writes = [call];
+    let case = Case {
+        writes: &writes,
+        most,
+        ..good()
+    };
+    let taken = (call.saturating_sub(1) as usize).saturating_mul(most);
+    if taken >= case.out.len() {
+        return holds(rt, &case);
+    }
+    let failed = Case {
+        status: 4,
+        out: &case.out[..taken],
+        err: "output: write failed\n",
+        ..case
+    };
+    holds(rt, &failed)
 }
 
 #[test]
-fn failed_writes_leave_a_front(rt: HostRuntime) -> Result<(), Fail> {
+fn failed_writes_leave_a_front(rt: HostRuntime) {
     for most in [1usize, 5, 64] {
         for call in 1u64..21 {
-            let taken = (call as usize - 1) * most;
-            if taken < GOOD.out.len() {
-                let case = Case {
-                    writes: &[call],
-                    most,
-                    status: 4,
-                    out: &GOOD.out[..taken],
-                    err: "output: write failed\n",
-                    ..GOOD
-                };
-                assert!(rt; holds(&rt, &case)?, "call {call} of {most} bytes");
-            } else {
-                let case = Case {
-                    writes: &[call],
-                    most,
-                    ..GOOD
-                };
-                assert!(rt; holds(&rt, &case)?, "call {call} of {most} bytes");
-            }
+            assert!(rt;
+                leaves_a_front(&rt, call, most),
+                "call {call} of {most} bytes"
+            );
         }
     }
-    Ok(())
 }
 
 /// Words that ask for no command.
@@ -304,28 +332,33 @@ static NO_COMMAND: [&'static [&'static str]; 15] = [
     &["match", "--workers", "04", "g", "k"],
 ];
 
+fn no_command() -> &'static [&'static [&'static str]] {
+    &NO_COMMAND
+}
+
+/// What is said of words that ask for no command.
+fn usage() -> &'static str {
+    "usage:\n  gkey match [--workers N] GRAPH KEYS\n  gkey prove [--workers N] GRAPH KEYS\n  gkey check GRAPH KEYS PROOF\n  gkey convert PROOF\n  gkey demo N\n  gkey merge [--workers N] GRAPH KEYS\n  gkey why [--workers N] GRAPH KEYS A B\n"
+}
+
 #[test]
-fn other_words_ask_for_no_command(rt: HostRuntime) -> Result<(), Fail> {
-    for (row, words) in NO_COMMAND.iter().enumerate() {
+fn other_words_ask_for_no_command(rt: HostRuntime) {
+    for (row, words) in no_command().iter().enumerate() {
         let case = Case {
             words,
             status: 64,
             out: b"",
-            err: "usage:\n  gkey match [--workers N] GRAPH KEYS\n  gkey prove [--workers N] GRAPH KEYS\n  gkey check GRAPH KEYS PROOF\n  gkey convert PROOF\n  gkey demo N\n  gkey merge [--workers N] GRAPH KEYS\n  gkey why [--workers N] GRAPH KEYS A B\n",
-            ..GOOD
+            err: usage(),
+            ..good()
         };
-        assert!(rt; holds(&rt, &case)?, "row {row}");
+        assert!(rt; holds(&rt, &case), "row {row}");
     }
     // A word that begins with a dash is a name as any other.
     let dashes = Case {
         words: &["match", "--workers", "4"],
-        status: 3,
-        out: b"",
-        err: "graph: read failed\n",
-        ..GOOD
+        ..unread(&[], "graph: read failed\n")
     };
-    assert!(rt; holds(&rt, &dashes)?);
-    Ok(())
+    assert!(rt; holds(&rt, &dashes));
 }
 
 /// A demo, over a shelf that fails at its first call.
@@ -336,56 +369,61 @@ const DEMO: Case<'static> = Case {
     ..GOOD
 };
 
-#[test]
-fn demos_print_their_counts(rt: HostRuntime) -> Result<(), Fail> {
-    let thousand = Case {
+/// A demo that limits refuse.
+const REFUSED_DEMO: Case<'static> = Case {
+    words: &["demo", "2"],
+    status: 2,
+    out: b"",
+    ..DEMO
+};
+
+/// Demos, and what they print or how they are refused.
+static DEMOS: [Case<'static>; 4] = [
+    DEMO,
+    Case {
         words: &["demo", "1000"],
         out: b"triples 6000 pairs 1000 classes 1000 members 2000\n",
         ..DEMO
-    };
-    let few_triples = Case {
+    },
+    Case {
         limits: Limits {
             triples: 6,
             ..Limits::STANDARD
         },
-        words: &["demo", "2"],
-        status: 2,
-        out: b"",
         err: "graph:7: too many triples\n",
-        ..DEMO
-    };
-    let few_pairs = Case {
+        ..REFUSED_DEMO
+    },
+    Case {
         limits: Limits {
             pairs: 1,
             ..Limits::STANDARD
         },
         err: "pairs: more than 1\n",
-        ..few_triples
-    };
-    for (row, case) in [DEMO, thousand, few_triples, few_pairs]
-        .into_iter()
-        .enumerate()
-    {
-        assert!(rt; holds(&rt, &case)?, "row {row}");
-    }
-    Ok(())
+        ..REFUSED_DEMO
+    },
+];
+
+fn demos() -> &'static [Case<'static>] {
+    &DEMOS
 }
 
 #[test]
-fn albums_match_over_devices_that_do_not_fail(rt: HostRuntime) -> Result<(), Fail> {
-    let mut words = Vec::new(rt.alloc());
-    for word in GOOD.words {
-        words.push(text(&rt, word)?)?;
+fn demos_print_their_counts(rt: HostRuntime) {
+    for (row, case) in demos().iter().enumerate() {
+        assert!(rt; holds(&rt, case), "row {row}");
     }
-    let mut files = Vec::new(rt.alloc());
-    files.push((text(&rt, "g")?, ALBUMS.to_vec(rt.alloc())?))?;
-    files.push((text(&rt, "k")?, ALBUM_KEY.to_vec(rt.alloc())?))?;
+}
+
+#[test]
+fn albums_match_over_devices_that_do_not_fail(rt: HostRuntime) {
+    let alloc = rt.alloc();
+    let words = words_of(alloc, good().words).expect(&rt, ENOUGH);
+    let files = files_of(alloc, albums(), album_key(), b"").expect(&rt, ENOUGH);
     let mut shelf = SureShelf::new(files);
-    let mut out = SureSink::new(rt.alloc(), 100)?;
-    let mut err = SureSink::new(rt.alloc(), 100)?;
-    let status = run(&rt, rt.alloc(), &words, &mut shelf, &mut out, &mut err);
+    let mut out = SureSink::new(alloc, 100).expect(&rt, ENOUGH);
+    let mut err = SureSink::new(alloc, 100).expect(&rt, ENOUGH);
+    let status = run(&rt, alloc, &words, &mut shelf, &mut out, &mut err);
     assert_eq!(rt; status, 0);
     assert_eq!(rt; out.bytes(), b"<urn:al1> <urn:al2>\n".as_slice());
     assert!(rt; err.bytes().is_empty());
-    Ok(())
 }
