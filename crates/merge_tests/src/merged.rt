@@ -1,6 +1,7 @@
 ghost use Rattle.std.specs.Prelude.{All, IsTrue};
 ghost use Rattle.merge_graph.specs.MergedGraph.{IsWithin};
 
+use fixtures::texts::{ALBUMS, ALBUMS_AND_ARTISTS};
 use gk_base::{Limits, NoMemory, ReadStop};
 use merge_graph::merge;
 use nt_reader::Reader;
@@ -11,7 +12,7 @@ use term_table::Names;
 
 /// A graph, the labels of its names in the order in which they first come, and the merged graph.
 struct Merging {
-    graph: &'static str,
+    graph: &'static [u8],
     labels: &'static [u32],
     merged: &'static str,
 }
@@ -19,14 +20,7 @@ struct Merging {
 static MERGED: [Merging; 6] = [
     // The first two albums are one.
     Merging {
-        graph: "\
-<urn:al1> <http://www.w3.org/1999/02/22-rdf-syntax-ns#type> <urn:Album> .
-<urn:al2> <http://www.w3.org/1999/02/22-rdf-syntax-ns#type> <urn:Album> .
-<urn:al1> <urn:name> \"Anthology 2\" .
-<urn:al2> <urn:name> \"Anthology 2\" .
-<urn:al1> <urn:year> \"1996\" .
-<urn:al2> <urn:year> \"1996\" .
-",
+        graph: ALBUMS,
         labels: &[0, 1, 2, 0, 4, 5, 6, 7],
         merged: "\
 <urn:al1> <http://www.w3.org/1999/02/22-rdf-syntax-ns#type> <urn:Album> .
@@ -36,26 +30,7 @@ static MERGED: [Merging; 6] = [
     },
     // Two albums each, and the artists, are one.
     Merging {
-        graph: "\
-<urn:al1> <http://www.w3.org/1999/02/22-rdf-syntax-ns#type> <urn:Album> .
-<urn:al2> <http://www.w3.org/1999/02/22-rdf-syntax-ns#type> <urn:Album> .
-<urn:al1> <urn:name> \"Anthology 2\" .
-<urn:al2> <urn:name> \"Anthology 2\" .
-<urn:al1> <urn:year> \"1996\" .
-<urn:al2> <urn:year> \"1996\" .
-<urn:al3> <http://www.w3.org/1999/02/22-rdf-syntax-ns#type> <urn:Album> .
-<urn:al4> <http://www.w3.org/1999/02/22-rdf-syntax-ns#type> <urn:Album> .
-<urn:al3> <urn:name> \"Help!\" .
-<urn:al4> <urn:name> \"Help!\" .
-<urn:ar1> <http://www.w3.org/1999/02/22-rdf-syntax-ns#type> <urn:Artist> .
-<urn:ar2> <http://www.w3.org/1999/02/22-rdf-syntax-ns#type> <urn:Artist> .
-<urn:ar1> <urn:name> \"The Beatles\" .
-<urn:ar2> <urn:name> \"The Beatles\" .
-<urn:al1> <urn:by> <urn:ar1> .
-<urn:al2> <urn:by> <urn:ar2> .
-<urn:al3> <urn:by> <urn:ar1> .
-<urn:al4> <urn:by> <urn:ar2> .
-",
+        graph: ALBUMS_AND_ARTISTS,
         labels: &[0, 1, 2, 0, 4, 5, 6, 7, 9, 9, 10, 13, 12, 13, 14, 15],
         merged: "\
 <urn:al1> <http://www.w3.org/1999/02/22-rdf-syntax-ns#type> <urn:Album> .
@@ -70,13 +45,13 @@ static MERGED: [Merging; 6] = [
 ",
     },
     Merging {
-        graph: "",
+        graph: b"",
         labels: &[],
         merged: "",
     },
     // Blank nodes and an IRI are one. The IRI comes last, and has the first text.
     Merging {
-        graph: "\
+        graph: b"\
 _:b.1 <urn:p> \"1\" .
 _::x <urn:p> \"1\" .
 <urn:z> <urn:p> \"1\" .
@@ -90,7 +65,7 @@ _::x <urn:p> \"1\" .
     },
     // A predicate stays, though it is one with the subject. Nothing else is one, and a triple comes twice.
     Merging {
-        graph: "\
+        graph: b"\
 <urn:b> <urn:p> <urn:p> .
 <urn:a> <urn:q> \"1\"@en .
 <urn:b> <urn:p> <urn:p> .
@@ -105,7 +80,7 @@ _::x <urn:p> \"1\" .
     },
     // Some texts begin with the whole of another.
     Merging {
-        graph: "\
+        graph: b"\
 _:b0 <urn:p> \"1\" .
 _:b <urn:p> \"1\" .
 <urn:a> <urn:q> \"1\"^^<urn:t> .
@@ -122,9 +97,9 @@ _:b0 <urn:p> \"1\" .
 ];
 
 /// The triples of a graph.
-fn read(alloc: Global, graph: &str) -> Result<Triples, ReadStop> {
+fn read(alloc: Global, graph: &[u8]) -> Result<Triples, ReadStop> {
     let mut reader = Reader::new(alloc, &Limits::STANDARD);
-    reader.feed(graph.as_bytes())?;
+    reader.feed(graph)?;
     reader.finish()
 }
 
