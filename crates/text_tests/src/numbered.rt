@@ -2,9 +2,49 @@ use crate::sample::Sample;
 use gk_base::{NoMemory, Term, Text};
 use std::alloc::Global;
 use std::hash::{FoldHasher, Hasher};
-use std::test::Fail;
 use term_list::{TermRef, Terms};
 use term_table::Names;
+
+// The calls below stand behind functions that promise nothing, so that the proof of a test has little to carry.
+
+/// More names than any test has.
+const MANY: u32 = 10_000;
+
+/// The number of a term, which becomes a name where it is none. There is no number where there are many names.
+fn number_of(names: &mut Names, term: Term) -> Result<Option<u32>, NoMemory> {
+    if names.len() < MANY {
+        Ok(Some(names.intern(term)?))
+    } else {
+        Ok(None)
+    }
+}
+
+/// The numbers of the terms, as they are interned together. There are none where there are many names or terms.
+fn numbers_of(names: &mut Names, terms: &Terms) -> Result<Option<Vec<u32>>, NoMemory> {
+    if names.len() < MANY && terms.len() < MANY as usize {
+        Ok(Some(names.intern_all(terms)?))
+    } else {
+        Ok(None)
+    }
+}
+
+/// Whether this number was found.
+fn is_number(found: Option<u32>, number: usize) -> bool {
+    match found {
+        Some(place) => place as usize == number,
+        None => false,
+    }
+}
+
+/// Whether the numbers are 0, 1 and so on.
+fn count_up(numbers: &[u32]) -> bool {
+    for (place, number) in numbers.iter().enumerate() {
+        if *number as usize != place {
+            return false;
+        }
+    }
+    true
+}
 
 /// Terms, one after another, and the numbers that they get.
 static REPEATED: [(Sample, u32); 3] = [
@@ -21,19 +61,19 @@ static FOUND: [(Sample, Option<u32>); 3] = [
 ];
 
 #[test]
-fn a_repeated_term_keeps_its_number(rt: HostRuntime) -> Result<(), Fail> {
+fn a_repeated_term_keeps_its_number(rt: HostRuntime) {
     let alloc = rt.alloc();
     let mut names = Names::new(alloc);
     for (sample, number) in &REPEATED {
-        assert!(rt; names.len() < 1000);
-        assert!(rt; names.intern(sample.to_term(alloc)?)? == *number);
+        assert!(rt;
+            number_of(&mut names, sample.made(&rt)).expect(&rt, "enough memory") == Some(*number)
+        );
     }
     assert!(rt; names.len() == 2);
     assert!(rt; REPEATED[1].0.is(&names.term(1)));
     for (sample, place) in &FOUND {
-        assert!(rt; names.find(&sample.to_term(alloc)?) == *place);
+        assert!(rt; names.find(&sample.made(&rt)) == *place);
     }
-    Ok(())
 }
 
 /// The names of two terms, then further terms, and the numbers that these get together.
@@ -57,29 +97,43 @@ fn list_of(alloc: Global, samples: &[Sample]) -> Result<Terms, NoMemory> {
 }
 
 #[test]
-fn terms_together_get_the_numbers_that_they_get_one_by_one(rt: HostRuntime) -> Result<(), Fail> {
+fn terms_together_get_the_numbers_that_they_get_one_by_one(rt: HostRuntime) {
     let alloc = rt.alloc();
     let mut names = Names::new(alloc);
     for sample in &FIRST {
-        assert!(rt; names.len() < 1000);
-        names.intern(sample.to_term(alloc)?)?;
+        number_of(&mut names, sample.made(&rt))
+            .expect(&rt, "enough memory")
+            .expect(&rt, "many names");
     }
-    let terms = list_of(alloc, &TOGETHER)?;
-    assert!(rt; names.len() < 1000 && terms.len() < 1000);
-    let numbers = names.intern_all(&terms)?;
+    let terms = list_of(alloc, &TOGETHER).expect(&rt, "enough memory");
+    let numbers = numbers_of(&mut names, &terms)
+        .expect(&rt, "enough memory")
+        .expect(&rt, "many names");
     assert!(rt; numbers.as_slice() == [2, 0, 2, 3, 1].as_slice());
     assert!(rt; names.len() == 4);
-    Ok(())
 }
 
-/// Terms whose hashes, where no seed goes before them, are these. Four of them find their hash taken.
-static CROWD: [(Sample, u32); 6] = [
-    (Sample::Plain(b"8225"), 2_137_439_013),
-    (Sample::Plain(b"968155"), 2_137_439_014),
-    (Sample::Iri(b"8225"), 2_137_439_013),
-    (Sample::Plain(b"296672"), 2_137_439_013),
-    (Sample::Plain(b"378770"), 2_137_439_012),
-    (Sample::Blank(b"378770"), 2_137_439_012),
+/// Terms whose hashes, where no seed goes before them, are those below. Four of them find their hash taken.
+static CROWD: [Sample; 6] = [
+    Sample::Plain(b"8225"),
+    Sample::Plain(b"968155"),
+    Sample::Iri(b"8225"),
+    Sample::Plain(b"296672"),
+    Sample::Plain(b"378770"),
+    Sample::Blank(b"378770"),
+];
+
+fn crowd() -> &'static [Sample] {
+    &CROWD
+}
+
+static HASHES: [u32; 6] = [
+    2_137_439_013,
+    2_137_439_014,
+    2_137_439_013,
+    2_137_439_013,
+    2_137_439_012,
+    2_137_439_012,
 ];
 
 /// The hash of a term where no seed goes before it: that of its texts by std's fast hasher.
@@ -90,26 +144,50 @@ fn hash_of(term: &TermRef<'_>) -> u32 {
     (hasher.finish() >> 33) as u32
 }
 
-#[test]
-fn terms_whose_hashes_crowd_are_told_apart(rt: HostRuntime) -> Result<(), Fail> {
-    let alloc = rt.alloc();
-    for mut names in [Names::new(alloc), Names::with_seed(alloc, 7)] {
-        let mut terms = Terms::new(alloc);
-        for (number, (sample, hash)) in CROWD.iter().enumerate() {
-            assert!(rt; hash_of(&sample.lent()) == *hash);
-            terms.push(&sample.lent())?;
-            let term = sample.to_term(alloc)?;
-            assert!(rt; names.len() < 1000 && names.find(&term).is_none());
-            assert!(rt; names.intern(term)? == number as u32);
-        }
-        assert!(rt; names.len() < 1000 && terms.len() < 1000);
-        let numbers = names.intern_all(&terms)?;
-        assert!(rt; numbers.as_slice() == [0, 1, 2, 3, 4, 5].as_slice());
-        for (number, (sample, _)) in CROWD.iter().enumerate() {
-            assert!(rt; names.find(&sample.to_term(alloc)?) == Some(number as u32));
+/// Whether the hashes of the crowd are these.
+fn crowds() -> bool {
+    for (sample, hash) in CROWD.iter().zip(&HASHES) {
+        if hash_of(&sample.lent()) != *hash {
+            return false;
         }
     }
-    Ok(())
+    true
+}
+
+/// Whether each term is new, and gets its place as its number.
+fn are_new(alloc: Global, names: &mut Names, samples: &[Sample]) -> Result<bool, NoMemory> {
+    for (place, sample) in samples.iter().enumerate() {
+        let term = sample.to_term(alloc)?;
+        if names.find(&term).is_some() || !is_number(number_of(names, term)?, place) {
+            return Ok(false);
+        }
+    }
+    Ok(true)
+}
+
+/// Whether each term has its place as its number.
+fn are_found(alloc: Global, names: &Names, samples: &[Sample]) -> Result<bool, NoMemory> {
+    for (place, sample) in samples.iter().enumerate() {
+        if !is_number(names.find(&sample.to_term(alloc)?), place) {
+            return Ok(false);
+        }
+    }
+    Ok(true)
+}
+
+#[test]
+fn terms_whose_hashes_crowd_are_told_apart(rt: HostRuntime) {
+    let alloc = rt.alloc();
+    assert!(rt; crowds());
+    let terms = list_of(alloc, crowd()).expect(&rt, "enough memory");
+    for mut names in [Names::new(alloc), Names::with_seed(alloc, 7)] {
+        assert!(rt; are_new(alloc, &mut names, crowd()).expect(&rt, "enough memory"));
+        let numbers = numbers_of(&mut names, &terms)
+            .expect(&rt, "enough memory")
+            .expect(&rt, "many names");
+        assert!(rt; numbers.len() == 6 && count_up(&numbers));
+        assert!(rt; are_found(alloc, &names, crowd()).expect(&rt, "enough memory"));
+    }
 }
 
 /// The decimal digits of a number, as a literal.
@@ -117,30 +195,52 @@ fn digits(alloc: Global, number: u32) -> Result<Term, NoMemory> {
     Ok(Term::Plain(Text::from_bytes(alloc, number.to_string(alloc)?.as_bytes())?))
 }
 
+/// The digits of the numbers below this one.
+fn digits_below(alloc: Global, count: u32) -> Result<Terms, NoMemory> {
+    let mut terms = Terms::new(alloc);
+    for number in 0..count {
+        terms.push(&TermRef::of(&digits(alloc, number)?))?;
+    }
+    Ok(terms)
+}
+
+/// Whether the digits of each number below this one get that number as they are interned one by one.
+fn are_numbered(alloc: Global, names: &mut Names, count: u32) -> Result<bool, NoMemory> {
+    for number in 0..count {
+        if number_of(names, digits(alloc, number)?)? != Some(number) {
+            return Ok(false);
+        }
+    }
+    Ok(true)
+}
+
+/// Whether the digits of each number below this one are found to have that number.
+fn are_digits_found(alloc: Global, names: &Names, count: u32) -> Result<bool, NoMemory> {
+    for number in 0..count {
+        if names.find(&digits(alloc, number)?) != Some(number) {
+            return Ok(false);
+        }
+    }
+    Ok(true)
+}
+
 #[test]
-fn many_names_are_numbered_in_order_and_found(rt: HostRuntime) -> Result<(), Fail> {
+fn many_names_are_numbered_in_order_and_found(rt: HostRuntime) {
     let alloc = rt.alloc();
     let mut names = Names::new(alloc);
     names.expect(100);
-    for number in 0..700 {
-        assert!(rt; names.len() < 1000);
-        assert!(rt; names.intern(digits(alloc, number)?)? == number);
-    }
-    let mut terms = Terms::new(alloc);
-    for number in 0..1400 {
-        terms.push(&TermRef::of(&digits(alloc, number)?))?;
-    }
-    assert!(rt; names.len() < 1000 && terms.len() < 2000);
-    let numbers = names.intern_all(&terms)?;
-    assert!(rt; numbers.len() == 1400 && names.len() == 1400);
-    for (place, number) in numbers.iter().enumerate() {
-        assert!(rt; *number == place as u32);
-    }
-    for number in 0..1400 {
-        assert!(rt; names.find(&digits(alloc, number)?) == Some(number));
-    }
-    assert!(rt; names.find(&digits(alloc, 1400)?).is_none());
-    Ok(())
+    assert!(rt; are_numbered(alloc, &mut names, 700).expect(&rt, "enough memory"));
+    let terms = digits_below(alloc, 1400).expect(&rt, "enough memory");
+    let numbers = numbers_of(&mut names, &terms)
+        .expect(&rt, "enough memory")
+        .expect(&rt, "many names");
+    assert!(rt; numbers.len() == 1400 && names.len() == 1400 && count_up(&numbers));
+    assert!(rt; are_digits_found(alloc, &names, 1400).expect(&rt, "enough memory"));
+    assert!(rt;
+        names
+            .find(&digits(alloc, 1400).expect(&rt, "enough memory"))
+            .is_none()
+    );
 }
 
 /// Each sample beside the number of the first that is alike to it.
@@ -164,18 +264,36 @@ static ALIKE: [(Sample, u32); 17] = [
     (Sample::Blank(b"X"), 16),
 ];
 
-#[test]
-fn literals_are_alike_by_kind_datatype_tag_and_folded_form(rt: HostRuntime) -> Result<(), Fail> {
-    let alloc = rt.alloc();
-    let mut names = Names::new(alloc);
-    for (sample, _) in &ALIKE {
-        assert!(rt; names.len() < 1000);
-        names.intern(sample.to_term(alloc)?)?;
-    }
-    let alike = names.alike()?;
-    assert!(rt; alike.len() == ALIKE.len());
-    for (number, (_, first)) in alike.iter().zip(&ALIKE) {
-        assert!(rt; *number == *first);
+fn alike_terms() -> &'static [(Sample, u32)] {
+    &ALIKE
+}
+
+/// Interns the terms of the rows.
+fn intern_rows(alloc: Global, names: &mut Names, rows: &[(Sample, u32)]) -> Result<(), NoMemory> {
+    for (sample, _) in rows {
+        let _ = number_of(names, sample.to_term(alloc)?)?;
     }
     Ok(())
+}
+
+/// Whether these are the numbers of the rows.
+fn are_numbers(numbers: &[u32], rows: &[(Sample, u32)]) -> bool {
+    if numbers.len() != rows.len() {
+        return false;
+    }
+    for (number, (_, first)) in numbers.iter().zip(rows) {
+        if *number != *first {
+            return false;
+        }
+    }
+    true
+}
+
+#[test]
+fn literals_are_alike_by_kind_datatype_tag_and_folded_form(rt: HostRuntime) {
+    let alloc = rt.alloc();
+    let mut names = Names::new(alloc);
+    intern_rows(alloc, &mut names, alike_terms()).expect(&rt, "enough memory");
+    let numbers = names.alike().expect(&rt, "enough memory");
+    assert!(rt; are_numbers(&numbers, alike_terms()));
 }

@@ -1,6 +1,5 @@
 use crate::sample::Sample;
 use gk_base::Triple;
-use std::test::Fail;
 use term_table::Names;
 use term_text::{put_term, put_triple, report};
 
@@ -22,28 +21,26 @@ static WRITTEN: [(Sample, &[u8]); 7] = [
 ];
 
 #[test]
-fn terms_are_written_canonically(rt: HostRuntime) -> Result<(), Fail> {
+fn terms_are_written_canonically(rt: HostRuntime) {
     let alloc = rt.alloc();
     for (sample, text) in &WRITTEN {
-        let mut buf = b"+".to_vec(alloc)?;
-        put_term(&mut buf, &sample.to_term(alloc)?)?;
+        let mut buf = b"+".to_vec(alloc).expect(&rt, "enough memory");
+        put_term(&mut buf, &sample.made(&rt)).expect(&rt, "enough memory");
         assert_eq!(rt; buf.as_slice(), *text);
     }
-    Ok(())
 }
 
 #[test]
-fn a_triple_is_a_line(rt: HostRuntime) -> Result<(), Fail> {
+fn a_triple_is_a_line(rt: HostRuntime) {
     let alloc = rt.alloc();
     let triple = Triple {
-        subject: Sample::Iri(b"urn:a").to_term(alloc)?,
-        predicate: Sample::Iri(b"urn:p").to_term(alloc)?,
-        object: Sample::Plain(b"1").to_term(alloc)?,
+        subject: Sample::Iri(b"urn:a").made(&rt),
+        predicate: Sample::Iri(b"urn:p").made(&rt),
+        object: Sample::Plain(b"1").made(&rt),
     };
     let mut buf = Vec::new(alloc);
-    put_triple(&mut buf, &triple)?;
+    put_triple(&mut buf, &triple).expect(&rt, "enough memory");
     assert_eq!(rt; buf.as_slice(), b"<urn:a> <urn:p> \"1\" .\n".as_slice());
-    Ok(())
 }
 
 /// Four names. By their texts their order is 3, 0, 2, 1.
@@ -68,18 +65,17 @@ static REPORTS: [([u32; 4], &str); 6] = [
 ];
 
 #[test]
-fn the_report_prints_shared_labels_by_text(rt: HostRuntime) -> Result<(), Fail> {
+fn the_report_prints_shared_labels_by_text(rt: HostRuntime) {
     let alloc = rt.alloc();
     let mut names = Names::new(alloc);
     for sample in &NAMES {
         assert!(rt; names.len() < 4);
-        names.intern(sample.to_term(alloc)?)?;
+        names.intern(sample.made(&rt)).expect(&rt, "enough memory");
     }
     assert_eq!(rt; names.len(), 4);
     for (labels, expected) in &REPORTS {
-        let printed = report(alloc, &names, labels)?;
+        let printed = report(alloc, &names, labels).expect(&rt, "enough memory");
         assert_eq!(rt; printed.bytes(), expected.as_bytes(), "at {labels:?}");
         assert_eq!(rt; printed.into_vec().as_slice(), expected.as_bytes());
     }
-    Ok(())
 }

@@ -4,7 +4,6 @@ use crate::sample::Sample;
 use gk_base::{LexFault, LexStop, Limits, NoMemory, ReadFault, ReadRefusal, ReadStop};
 use nt_reader::{Reader, read_line};
 use std::alloc::{AllocError, Global};
-use std::test::Fail;
 use term_list::{TermRef, Terms, Triples};
 
 mod characters;
@@ -292,16 +291,15 @@ static OPEN: [(&[u8], u64); 3] = [
 ];
 
 #[test]
-fn files_are_refused_at_their_first_faulty_line(rt: HostRuntime) -> Result<(), Fail> {
+fn files_are_refused_at_their_first_faulty_line(rt: HostRuntime) {
     let alloc = rt.alloc();
     for (more, line) in &OPEN {
-        let text = joined(alloc, files::albums(), more)?;
+        let text = joined(alloc, files::albums(), more).expect(&rt, "enough memory");
         assert!(rt; is_refused_at(alloc, &text, *line, LexFault::StringNotClosed));
     }
     assert!(rt; is_refused_at(alloc, files::relative(), 3, LexFault::RelativeIri));
-    let (_, front) = files::ends().split_last().ok_or("no file")?;
+    let (_, front) = files::ends().split_last().expect(&rt, "no file");
     assert!(rt; is_refused_at(alloc, front, 5, LexFault::DotExpected));
-    Ok(())
 }
 
 const ONE: &[u8] = b"<urn:a> <urn:p> \"1\" .\r\n";

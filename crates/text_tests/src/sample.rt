@@ -2,6 +2,7 @@
 
 use gk_base::{NoMemory, Term};
 use std::alloc::Global;
+use std::process::Abort;
 use term_list::{TermKind, TermRef};
 
 /// A term of a table.
@@ -29,6 +30,11 @@ impl Sample {
     /// The term with texts of its own.
     pub(crate) fn to_term(self, alloc: Global) -> Result<Term, NoMemory> {
         self.lent().to_term(alloc)
+    }
+
+    /// The same in a test, which ends where there is no memory for it.
+    pub(crate) fn made<R: AllocGlobal + Abort>(self, rt: &R) -> Term {
+        self.to_term(rt.alloc()).expect(rt, "enough memory")
     }
 
     /// Whether it is this term.

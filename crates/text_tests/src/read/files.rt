@@ -2,20 +2,12 @@
 
 use super::Row;
 use crate::sample::Sample;
+use fixtures::texts::ALBUMS;
 
 /// `rdf:type`.
 const TYPE: &[u8] = b"http://www.w3.org/1999/02/22-rdf-syntax-ns#type";
 
-/// Two albums with the same name and year.
-static ALBUMS: &[u8] = b"\
-        <urn:al1> <http://www.w3.org/1999/02/22-rdf-syntax-ns#type> <urn:Album> .\n\
-        <urn:al2> <http://www.w3.org/1999/02/22-rdf-syntax-ns#type> <urn:Album> .\n\
-        <urn:al1> <urn:name> \"Anthology 2\" .\n\
-        <urn:al2> <urn:name> \"Anthology 2\" .\n\
-        <urn:al1> <urn:year> \"1996\" .\n\
-        <urn:al2> <urn:year> \"1996\" .\n";
-
-/// Their triples.
+/// The triples of the two albums.
 static ALBUM_ROWS: [Row; 6] = [
     (
         Sample::Iri(b"urn:al1"),
