@@ -1,4 +1,5 @@
 mod Told
 mod NumberedRows
+mod TwoGraphs
 mod FeedingLemmas
 pub mod CallerLemmas

@@ -1,18 +1,21 @@
 //! A graph in numbers: from a shelf's file to rows and names, or what stopped it; and from those and the keys to what a chase
 //! works on. Three doors read files, `read_rows` a graph piece by piece, `read_more_rows` a second one behind it, and `load` the
-//! first bytes of any file. `number` makes the graph and the patterns.
+//! first bytes of any file. `number` makes the graph and the patterns, and `number_growth` the first graph and the whole one.
 //!
 //! - `loading`: the first bytes of a file
 //! - `rows`: triples in numbers
 //! - `pieces`: a graph's rows, read piece by piece
 //! - `numbering`: names, graph and patterns in numbers
+//! - `growth`: names, two graphs of which the second has all rows of the first, and patterns in numbers
 #![tactic(auto)]
 
+mod growth;
 mod loading;
 mod numbering;
 mod pieces;
 mod rows;
 
+pub use growth::{Growth, number_growth};
 pub use loading::load;
 pub use numbering::{Numbered, number};
 pub use pieces::{MoreRows, read_more_rows, read_rows};

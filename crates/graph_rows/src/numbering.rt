@@ -33,7 +33,7 @@ pub struct Numbered {
 }
 
 /// A flag for each name that tells whether it is a literal.
-fn literal_flags(alloc: Global, names: &Names) -> Result<Vec<bool>, NoMemory>
+pub(crate) fn literal_flags(alloc: Global, names: &Names) -> Result<Vec<bool>, NoMemory>
     ensures { IfOk result (λ flags. flags.items ≡ map is_literal names.now) }
 {
     let mut flags = Vec::with_capacity(alloc, names.len() as usize)?;
@@ -44,7 +44,7 @@ fn literal_flags(alloc: Global, names: &Names) -> Result<Vec<bool>, NoMemory>
 }
 
 /// The number of `rdf:type`, where it is a name.
-fn type_number(alloc: Global, names: &Names) -> Result<Option<u32>, NoMemory>
+pub(crate) fn type_number(alloc: Global, names: &Names) -> Result<Option<u32>, NoMemory>
     ensures { IfOk result (λ number. number ≡ type_number names.now) }
 {
     let rdf_type = Term::Iri(Text::from_bytes(alloc, RDF_TYPE)?);
@@ -87,7 +87,11 @@ fn own_numbers(alloc: Global, count: u32) -> Result<Vec<u32>, NoMemory>
 
 /// What each name is alike to. Only folded value variables ask for it, so where the keys have none, each name is alike to
 /// itself alone, and no literal is folded.
-fn alike_for(alloc: Global, names: &Names, patterns: &[Pattern]) -> Result<Vec<u32>, NoMemory>
+pub(crate) fn alike_for(
+    alloc: Global,
+    names: &Names,
+    patterns: &[Pattern],
+) -> Result<Vec<u32>, NoMemory>
     ensures value { IfOk result (λ numbers. AreAlikeFor names.now patterns.now numbers.items) }
     ensures one_each { IfOk result (λ numbers. length numbers.items ≡ length names.now) }
     ensures not_above { IfOk result (λ numbers. (n : ℕ) → n < length names.now → slice_index numbers.items n ≤ n) }
