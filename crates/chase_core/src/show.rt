@@ -1,36 +1,11 @@
 //! Shows the names of two lists with their present labels.
 
-ghost use Rattle.std.specs.Prelude.{◌≡◌, ◌<◌, ◌≤◌, ◌+◌, ◌⊎◌, All, length, min};
+ghost use Rattle.std.specs.Prelude.{◌≡◌, ◌<◌, ◌≤◌, ◌+◌, All, length, min};
 ghost use Rattle.std.specs.List.Sorted.{IsStrictlyIncreasing};
-ghost use Rattle.chase_core.specs.Shown.{ShowsBoth, IsLeastFrom, IsPast};
+ghost use Rattle.chase_core.specs.Shown.{ShowsBoth};
 
 use class_book::Book;
-use paired_search::View;
-
-/// The least of the names that two ascending lists have from a place in each on.
-fn least_from(first: &[u32], i: usize, second: &[u32], j: usize) -> u32
-    requires { (i < length first.now) ⊎ (j < length second.now) }
-    ensures { IsLeastFrom first.now i second.now j result }
-{
-    if i >= first.len() {
-        return second[j];
-    }
-    if j < second.len() && second[j] < first[i] {
-        return second[j];
-    }
-    first[i]
-}
-
-/// The place behind a name, where it stands at a place of the list, and else that place.
-fn past(names: &[u32], at: usize, name: u32) -> usize
-    ensures { IsPast names.now at name result }
-{
-    if at < names.len() && names[at] == name {
-        at + 1
-    } else {
-        at
-    }
-}
+use paired_search::{View, least_from, past};
 
 /// Shows the names of two ascending lists with their present labels, ascending and each once.
 pub fn show_both(book: &Book, first: &[u32], second: &[u32], view: &mut View)

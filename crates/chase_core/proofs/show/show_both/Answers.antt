@@ -1,6 +1,8 @@
 -- One name more is shown, and the lists go on behind it.
-use Rattle.std.proofs.Common.{◌∷◌, [], arith, ◌∙◌, length-append}
-use Rattle.chase_core.proofs.Showing.{ahead_more, shows_more, further, least_above, least_fewer}
+use Rattle.std.proofs.Common.{sym, subst, ◌∙◌, arith}
+use Rattle.paired_search.specs.Both.{IsWalkedTo}
+use Rattle.paired_search.proofs.CallerLemmas.{walked_all, walked_more}
+use Rattle.chase_core.proofs.Showing.{ArePresent, present_more}
 use Rattle.chase_core.proofs.show.show_both.Goals as goal
 
 pub loop-i-preserved : goal.loop-i-preserved
@@ -12,20 +14,15 @@ loop-i-preserved c =
     let pairs = c.loop-i.view.pairs in
     let n = c.least_from-name.result in
     let l = c.label.result in
-    let i = c.loop-i.i in
-    let j = c.loop-i.j in
-    let i' = c.past-i.result in
-    let j' = c.past-j.result in
-    let least = c.least_from-name.ensures in
-    let p = c.past-i.ensures in
-    let q = c.past-j.ensures in
-    let above = least_above labels xs ys c.requires.first c.requires.second i j n i' j' l pairs v.first v.second least p q in
-    let fewer = least_fewer labels xs ys c.requires.first c.requires.second i j n i' j' l pairs v.first v.second least p q in
-    let on = further labels xs ys c.requires.first c.requires.second i j n i' j' l pairs v.first v.second least p q in
     record {
-      shown = rw c.push.ensures.pairs (shows_more labels xs ys c.requires.first c.requires.second i j n i' j' l pairs v.first v.second least p q c.label.ensures.label v.shown);
+      walked = subst (IsWalkedTo xs c.past-i.result ys c.past-j.result) (sym c.push.ensures.pairs)
+          (walked_more xs ys c.requires.first c.requires.second c.loop-i.i c.loop-i.j n c.past-i.result c.past-j.result l pairs v.walked c.least_from-name.ensures c.past-i.ensures c.past-j.ensures);
+      present = subst (ArePresent labels) (sym c.push.ensures.pairs) (present_more labels pairs n l c.label.ensures.label v.present);
       room = c.push.ensures.room ∙ v.room;
-      few = rw c.push.ensures.pairs (omega (arith, length-append pairs ((n, l) ∷ []), v.few));
-      first = rw c.push.ensures.pairs (ahead_more xs c.requires.first i n i' l pairs v.first least.first p above fewer);
-      second = rw c.push.ensures.pairs (ahead_more ys c.requires.second j n j' l pairs v.second least.second q above fewer);
     }
+
+pub returns-clause-shown : goal.returns-clause-shown
+returns-clause-shown c = record {
+  listed = walked_all c.args.first.now c.loop-i.i c.args.second.now c.loop-i.j c.loop-i.view.pairs c.loop-i.invariant.walked (omega arith) (omega arith);
+  present = c.loop-i.invariant.present;
+}
