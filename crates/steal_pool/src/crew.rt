@@ -5,6 +5,7 @@ ghost use Rattle.chase_core.specs.Setup.{Preparation};
 ghost use Rattle.steal_pool.specs.CrewMembers.{IsCrewMember, AllOutWith, pair_count, widest_of};
 ghost use Rattle.steal_pool.specs.Workspaces.{IsWorkspace};
 
+use crate::course::Course;
 use crate::crew_member::CrewMember;
 use crate::hints::Thief;
 use crate::shared::Shared;
@@ -55,7 +56,12 @@ fn members_of<'a>(
 {
     while let Some(pass) = passes.pop() {
         let workspace = workspaces.pop().unwrap();
-        members.push_reserved(CrewMember { pass, workspace });
+        let course = Course::new();
+        members.push_reserved(CrewMember {
+            pass,
+            workspace,
+            course,
+        });
     }
 }
 

@@ -1,5 +1,6 @@
 //! A worker with its pass of the lock.
 
+use crate::course::Course;
 use crate::workspace::Workspace;
 use turn_lock::{Journaled, Pass};
 
@@ -8,4 +9,5 @@ use turn_lock::{Journaled, Pass};
 pub struct CrewMember<T: Journaled> {
     pub pass: Pass<T>,
     pub workspace: Workspace,
+    pub course: Course,
 }

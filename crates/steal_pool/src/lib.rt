@@ -13,6 +13,8 @@
 //! - `worker`: what a worker does until it ends
 //! - `turns`: a turn of a worker
 //! - `batch`: what a worker does with the chase in a turn
+//! - `course`: how a worker goes through the pairs
+//! - `signs`: what workers tell one another without the lock
 //! - `alone`: what a worker does that has a chase for itself
 //! - `hunt`: where a worker looks for a hint
 //! - `crew_member`: a worker with its pass of the lock
@@ -25,6 +27,7 @@
 
 mod alone;
 mod batch;
+mod course;
 mod crew;
 mod crew_member;
 mod deques;
@@ -34,6 +37,7 @@ mod hints;
 mod hunt;
 mod run;
 mod shared;
+mod signs;
 mod threads;
 mod turns;
 mod worker;

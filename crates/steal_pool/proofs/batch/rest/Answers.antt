@@ -1,0 +1,10 @@
+use Rattle.steal_pool.proofs.batch.rest.Goals as goal
+
+pub returns-clause-workspace : goal.returns-clause-workspace
+returns-clause-workspace c = λ n widest thieves h. record {
+  count = h.count;
+  own = h.own;
+  passes = h.passes;
+  pending = h.pending;
+  rooms = h.rooms;
+}
