@@ -13,10 +13,17 @@ const KEYS: &str = "keys: read failed\n";
 
 const PROOF: &str = "proof: read failed\n";
 
+/// The merged graph of the two albums.
+const MERGED: &str = "\
+<urn:al1> <http://www.w3.org/1999/02/22-rdf-syntax-ns#type> <urn:Album> .
+<urn:al1> <urn:name> \"Anthology 2\" .
+<urn:al1> <urn:year> \"1996\" .
+";
+
 /// More calls than a run makes of a device.
 const MOST_CALLS: u64 = 200;
 
-static COMMANDS: [Command; 4] = [
+static COMMANDS: [Command; 6] = [
     Command {
         words: &["match", "g", "k"],
         out: "<urn:al1> <urn:al2>\n",
@@ -36,6 +43,16 @@ static COMMANDS: [Command; 4] = [
         words: &["convert", "p"],
         out: ALBUM_PROOF,
         unread: &[PROOF],
+    },
+    Command {
+        words: &["merge", "g", "k"],
+        out: MERGED,
+        unread: &[GRAPH, KEYS],
+    },
+    Command {
+        words: &["why", "g", "k", "<urn:al1>", "<urn:al2>"],
+        out: ALBUM_PROOF,
+        unread: &[GRAPH, KEYS],
     },
 ];
 
