@@ -19,7 +19,7 @@ pub enum Stance {
     GoAlone,
 }
 
-/// What workers tell one another without the lock. Nothing is proved of it: each word may be old when it is read.
+/// What workers tell one another without the lock. Nothing is proved of what the words hold: each may be old when it is read.
 #[derive(Drop)]
 pub struct Signs {
     /// How many workers search.
