@@ -14,15 +14,17 @@ use Rattle.nt_reader.proofs.CallerLemmas.{file_once}
 use Rattle.key_file.specs.KeyShape.{KeyShape}
 use Rattle.key_file.specs.Name.{is_name}
 use Rattle.key_file.specs.Numbered.{names_for}
+use Rattle.key_lang.specs.KeyText.{KeysSay}
 use Rattle.key_lang.proofs.CallerLemmas.{keys_once}
 use Rattle.term_text.specs.ReadBack.{CanBeSpelled}
 use Rattle.proof_graph.specs.Steps.{StepShape}
 use Rattle.proof_graph.specs.CanonicalProof.{proof_text}
+use Rattle.proof_graph.specs.ProofText.{ProofSays}
 use Rattle.proof_check.specs.Verdict.{verdict}
 use Rattle.graph_rows.specs.GraphFile.{StopsSoon, StopsAtGraph}
 use Rattle.graph_rows.proofs.CallerLemmas.{told, told_more, told_both}
 use Rattle.gkey_cmd.specs.Commands.{Wanted, Matching, Proving, Checking, Converting, Demonstrating, Merging, Explaining, demo_graph_name, demo_keys_name, files_of}
-use Rattle.gkey_cmd.specs.Reading.{NamedFiles, IsAccepted, GraphSays, KeyFileSays, ProofFileSays, IsRefusedSo, AllAccepted, FirstRefused}
+use Rattle.gkey_cmd.specs.Reading.{NamedFiles, GraphSays, KeyFileSays, ProofFileSays, left_by, IsAcceptedLeaving, IsRefusedSo, AllAccepted, FirstRefused}
 use Rattle.gkey_cmd.specs.HowFar.{IsReadWithin, FileLeft, KeysLeft, ProofLeft, ChaseStops, LeavesFiles, StopsReading}
 use Rattle.gkey_cmd.specs.Failing.{HasFailed}
 use Rattle.gkey_cmd.specs.Matched.{IsReport, HasTooManyPairs}
@@ -33,14 +35,14 @@ use Rattle.gkey_cmd.specs.ChaseEnds.{ChaseEnds, IsProofOfFiles, IsMergedOfFiles,
 use Rattle.gkey_cmd.proofs.Spelled.{names_good, names_spelled}
 use Rattle.gkey_cmd.proofs.OfFiles.{triples_of_file}
 use Rattle.gkey_cmd.specs.Demo.{demo_files, IsDemoText}
-use Rattle.gkey_cmd.specs.Endings.{graph_ending, Stopped, DemoStops, Caused, IsBeforeChase, StopsAt, EndsAt, ReadSoFar}
+use Rattle.gkey_cmd.specs.Endings.{graph_ending, Stopped, DemoStops, Caused, IsBeforeChase, StopsAt, EndsAt, AllAcceptedLeaving, ReadSoFar}
 use Rattle.gkey_cmd.specs.declared.file.File.{File}
-use Rattle.gkey_cmd.specs.declared.file.File.TheVariants.{Graph, Keys, Proof}
+use Rattle.gkey_cmd.specs.declared.file.File.TheVariants.{Graph, More, Keys, Proof}
 use Rattle.gkey_cmd.specs.declared.ending.Answer.{Answer}
 use Rattle.gkey_cmd.specs.declared.ending.Answer.TheVariants.{Given, NotAccepted, NotTheSame}
 use Rattle.gkey_cmd.specs.declared.ending.Asked.TheVariants.{First, Second}
 use Rattle.gkey_cmd.specs.declared.ending.Refusal.{Refusal}
-use Rattle.gkey_cmd.specs.declared.ending.Refusal.TheVariants.{InGraph, InKeys, InProof, NoSuchEntity, MorePairsThan}
+use Rattle.gkey_cmd.specs.declared.ending.Refusal.TheVariants.{InGraph, InMore, InKeys, InProof, NoSuchEntity, MorePairsThan}
 use Rattle.gkey_cmd.specs.declared.ending.Ending.{Ending}
 use Rattle.gkey_cmd.specs.declared.ending.Ending.TheVariants.{NoCommand, Failed, Refused, NoMemory, Done}
 
@@ -51,64 +53,98 @@ graph_ends shelf before after limits name stop.NoMemory h = h
 graph_ends shelf before after limits name (stop.Fault fault.Failed) h = (refl, h)
 graph_ends shelf before after limits name (stop.Fault (fault.Refused refusal)) h = (h.0, h.1, h.2)
 
--- after accepted files the first refused one is that of the others
-refused_after : (limits : Limits) (files : NamedFiles) (before others : List (File × List ℕ)) (refusal : Refusal) →
-    AllAccepted limits files before → FirstRefused limits files others refusal → FirstRefused limits files (before ++ others) refusal
-refused_after limits files [] others refusal h r = r
-refused_after limits files (file ∷ before) others refusal h r = inr (h.0, refused_after limits files before others refusal h.1 r)
+-- after accepted files the first refused one is that of the others, under the limits that are left
+refused_after : (limits left : Limits) (files : NamedFiles) (before others : List (File × List ℕ)) (refusal : Refusal) →
+    AllAcceptedLeaving limits files before left → FirstRefused left files others refusal → FirstRefused limits files (before ++ others) refusal
+refused_after limits left files [] others refusal h r = subst (λ l. FirstRefused l files others refusal) h r
+refused_after limits left files (file ∷ before) others refusal h r = inr (h.0, h.1, refused_after h.0 left files before others refusal h.2 r)
 
 -- one more accepted file
-accepted_more : (limits : Limits) (files : NamedFiles) (before : List (File × List ℕ)) (file : File) (name : List ℕ) →
-    AllAccepted limits files before → IsAccepted limits files file name → AllAccepted limits files (before ++ (file, name) ∷ [])
-accepted_more limits files [] file name h k = (k, tt)
-accepted_more limits files (first ∷ before) file name h k = (h.0, accepted_more limits files before file name h.1 k)
+accepted_more : (limits left next : Limits) (files : NamedFiles) (before : List (File × List ℕ)) (file : File) (name : List ℕ) →
+    AllAcceptedLeaving limits files before left → IsAcceptedLeaving left files file name next → AllAcceptedLeaving limits files (before ++ (file, name) ∷ []) next
+accepted_more limits left next files [] file name h k = (next, subst (λ l. IsAcceptedLeaving l files file name next) h k, refl)
+accepted_more limits left next files (first ∷ before) file name h k = (h.0, h.1, accepted_more h.0 left next files before file name h.2 k)
+
+-- they are accepted, whatever they leave
+all_accepted : (limits left : Limits) (files : NamedFiles) (list : List (File × List ℕ)) → AllAcceptedLeaving limits files list left → AllAccepted limits files list
+all_accepted limits left files [] h = tt
+all_accepted limits left files (file ∷ others) h = (h.0, h.1, all_accepted h.0 left files others h.2)
 
 -- nothing was read yet
-pub read_none : {K : Type 0} (shelf : Shelf.Ghosts K) (old : K) (limits : Limits) → ReadSoFar shelf old old limits []
-read_none shelf old limits = record { count = refl; held = refl; accepted = told (shelf.held old) _ (λ files. tt) }
+pub read_none : {K : Type 0} (shelf : Shelf.Ghosts K) (old : K) (limits : Limits) → ReadSoFar shelf old old limits [] limits
+read_none shelf old limits = record { count = refl; held = refl; accepted = told (shelf.held old) _ (λ files. refl) }
 
-module _ {K : Type 0} (shelf : Shelf.Ghosts K) (old mid new : K) (limits : Limits) (before : List (File × List ℕ)) (file : File) (name : List ℕ) (so_far : ReadSoFar shelf old mid limits before) where
+-- a key file and a proof file are judged under their limits of bytes alone
+pub keys_judged : (under left : Limits) → under.key_bytes ≡ left.key_bytes → (name : List ℕ) (files : NamedFiles) (refusal : Refusal) →
+    IsRefusedSo under files Keys name refusal → IsRefusedSo left files Keys name refusal
+keys_judged under left e name files (InGraph refusal) h = h
+keys_judged under left e name files (InMore refusal) h = h
+keys_judged under left e name files (InKeys refusal) h = subst (λ n. KeysSay n (bytes_of files name) (Err refusal)) e h
+keys_judged under left e name files (InProof refusal) h = h
+keys_judged under left e name files (NoSuchEntity asked) h = h
+keys_judged under left e name files (MorePairsThan limit) h = h
+
+pub proof_judged : (under left : Limits) → under.bytes ≡ left.bytes → (name : List ℕ) (files : NamedFiles) (refusal : Refusal) →
+    IsRefusedSo under files Proof name refusal → IsRefusedSo left files Proof name refusal
+proof_judged under left e name files (InGraph refusal) h = h
+proof_judged under left e name files (InMore refusal) h = h
+proof_judged under left e name files (InKeys refusal) h = h
+proof_judged under left e name files (InProof refusal) h = subst (λ n. ProofSays n (bytes_of files name) (Err refusal)) e h
+proof_judged under left e name files (NoSuchEntity asked) h = h
+proof_judged under left e name files (MorePairsThan limit) h = h
+
+module _ {K : Type 0} (shelf : Shelf.Ghosts K) (old mid new : K) (limits left : Limits) (before : List (File × List ℕ)) (file : File) (name : List ℕ) (so_far : ReadSoFar shelf old mid limits before left) where
   -- what is told of the files now was told at first
   pub told_first : (P : NamedFiles → Type 0) → IfSome (shelf.held mid) P → IfSome (shelf.held old) P
   told_first P h = subst (λ o. IfSome o P) so_far.held h
 
   -- the next file was read and is accepted
-  pub read_next : IfSome (shelf.held mid) (λ files. IsAccepted limits files file name) → shelf.faults new ≡ shelf.faults mid →
-      shelf.held new ≡ shelf.held mid → ReadSoFar shelf old new limits (before ++ (file, name) ∷ [])
-  read_next accepted count same = record {
+  pub read_next : (next : Limits) → IfSome (shelf.held mid) (λ files. IsAcceptedLeaving left files file name next) → shelf.faults new ≡ shelf.faults mid →
+      shelf.held new ≡ shelf.held mid → ReadSoFar shelf old new limits (before ++ (file, name) ∷ []) next
+  read_next next accepted count same = record {
     count = count ∙ so_far.count;
     held = same ∙ so_far.held;
-    accepted = told_both (shelf.held old) (λ files. AllAccepted limits files before) (λ files. IsAccepted limits files file name) _
-        (λ files a e. accepted_more limits files before file name a e) so_far.accepted (told_first _ accepted);
+    accepted = told_both (shelf.held old) (λ files. AllAcceptedLeaving limits files before left) (λ files. IsAcceptedLeaving left files file name next) _
+        (λ files a e. accepted_more limits left next files before file name a e) so_far.accepted (told_first _ accepted);
   }
 
   pub file_left_first : (limit : ℕ) → FileLeft shelf mid new limit name → FileLeft shelf old new limit name
   file_left_first limit h = (h.0, told_first (λ files. IsSomeAnd (shelf.rest new) (λ rest. IsReadWithin limit (bytes_of files name) rest)) h.1)
 
   -- how far it was read, said of the files as they were told at first
-  stops_first : (f : File) (refusal : Refusal) → StopsAt shelf mid new limits f name refusal → StopsAt shelf old new limits f name refusal
-  stops_first Graph (InGraph refusal) h = (h.0, told_first (λ files. IsSomeAnd (shelf.rest new) (λ rest. StopsSoon limits (bytes_of files name) rest)) h.1)
-  stops_first Graph (InKeys refusal) h = h
-  stops_first Graph (InProof refusal) h = h
-  stops_first Graph (NoSuchEntity asked) h = h
-  stops_first Graph (MorePairsThan limit) h = h
-  stops_first Keys (InGraph refusal) h = h
-  stops_first Keys (InKeys refusal) h = file_left_first limits.key_bytes h
-  stops_first Keys (InProof refusal) h = h
-  stops_first Keys (NoSuchEntity asked) h = h
-  stops_first Keys (MorePairsThan limit) h = h
-  stops_first Proof (InGraph refusal) h = h
-  stops_first Proof (InKeys refusal) h = h
-  stops_first Proof (InProof refusal) h = file_left_first limits.bytes h
-  stops_first Proof (NoSuchEntity asked) h = h
-  stops_first Proof (MorePairsThan limit) h = h
+  stops_first : (under : Limits) (f : File) (refusal : Refusal) → StopsAt shelf mid new under f name refusal → StopsAt shelf old new under f name refusal
+  stops_first under Graph (InGraph refusal) h = (h.0, told_first (λ files. IsSomeAnd (shelf.rest new) (λ rest. StopsSoon under (bytes_of files name) rest)) h.1)
+  stops_first under Graph (InMore refusal) h = h
+  stops_first under Graph (InKeys refusal) h = h
+  stops_first under Graph (InProof refusal) h = h
+  stops_first under Graph (NoSuchEntity asked) h = h
+  stops_first under Graph (MorePairsThan limit) h = h
+  stops_first under More (InGraph refusal) h = h
+  stops_first under More (InMore refusal) h = (h.0, told_first (λ files. IsSomeAnd (shelf.rest new) (λ rest. StopsSoon under (bytes_of files name) rest)) h.1)
+  stops_first under More (InKeys refusal) h = h
+  stops_first under More (InProof refusal) h = h
+  stops_first under More (NoSuchEntity asked) h = h
+  stops_first under More (MorePairsThan limit) h = h
+  stops_first under Keys (InGraph refusal) h = h
+  stops_first under Keys (InMore refusal) h = h
+  stops_first under Keys (InKeys refusal) h = file_left_first under.key_bytes h
+  stops_first under Keys (InProof refusal) h = h
+  stops_first under Keys (NoSuchEntity asked) h = h
+  stops_first under Keys (MorePairsThan limit) h = h
+  stops_first under Proof (InGraph refusal) h = h
+  stops_first under Proof (InMore refusal) h = h
+  stops_first under Proof (InKeys refusal) h = h
+  stops_first under Proof (InProof refusal) h = file_left_first under.bytes h
+  stops_first under Proof (NoSuchEntity asked) h = h
+  stops_first under Proof (MorePairsThan limit) h = h
 
-  -- the next file is not to be had
-  pub stopped : (command : Wanted) (after : List (File × List ℕ)) → files_of command ≡ before ++ (file, name) ∷ after →
-      ((refusal : Refusal) → StopsAt shelf old new limits file name refusal → StopsReading shelf old new (Some command) limits refusal) →
-      (ending : Ending) → EndsAt shelf mid new limits file name ending → Stopped shelf old new command limits ending
-  stopped command after e stops NoCommand h = absurd h
-  stopped command after e stops (Failed which) h =
+  -- the next file is not to be had: it was judged under some limits, as under those that are left
+  pub stopped : (under : Limits) → ((files : NamedFiles) (refusal : Refusal) → IsRefusedSo under files file name refusal → IsRefusedSo left files file name refusal) →
+      (command : Wanted) (after : List (File × List ℕ)) → files_of command ≡ before ++ (file, name) ∷ after →
+      ((refusal : Refusal) → StopsAt shelf old new under file name refusal → StopsReading shelf old new (Some command) limits refusal) →
+      (ending : Ending) → EndsAt shelf mid new under file name ending → Stopped shelf old new command limits ending
+  stopped under judged command after e stops NoCommand h = absurd h
+  stopped under judged command after e stops (Failed which) h =
       let P : File → Type 0 = λ f. HasFailed shelf old new command limits f in
       subst P (sym h.0) (record {
         before = before;
@@ -118,17 +154,28 @@ module _ {K : Type 0} (shelf : Shelf.Ghosts K) (old mid new : K) (limits : Limit
         rose = subst (λ n. Rose n (shelf.faults new)) so_far.count h.1.rose;
         asked_for = h.1.asked_for;
         is_bad = h.1.is_bad;
-        accepted = so_far.accepted;
+        accepted = told_more (shelf.held old) (λ files. AllAcceptedLeaving limits files before left) (λ files. AllAccepted limits files before)
+            (λ files a. all_accepted limits left files before a) so_far.accepted;
       })
-  stopped command after e stops (Refused refusal) h = (
+  stopped under judged command after e stops (Refused refusal) h = (
     h.0 ∙ so_far.count,
-    told_both (shelf.held old) (λ files. AllAccepted limits files before) (λ files. IsRefusedSo limits files file name refusal) _
-        (λ files a k. inl (subst (λ fs. FirstRefused limits files fs refusal) (sym e) (refused_after limits files before ((file, name) ∷ after) refusal a (inl k))))
+    told_both (shelf.held old) (λ files. AllAcceptedLeaving limits files before left) (λ files. IsRefusedSo under files file name refusal) _
+        (λ files a k. inl (subst (λ fs. FirstRefused limits files fs refusal) (sym e)
+        (refused_after limits left files before ((file, name) ∷ after) refusal a (inl (judged files refusal k)))))
         so_far.accepted (told_first _ h.1),
-    stops refusal (stops_first file refusal h.2),
+    stops refusal (stops_first under file refusal h.2),
   )
-  stopped command after e stops NoMemory h = h ∙ so_far.count
-  stopped command after e stops (Done answer text) h = absurd h
+  stopped under judged command after e stops NoMemory h = h ∙ so_far.count
+  stopped under judged command after e stops (Done answer text) h = absurd h
+
+-- the graph was read first, and is accepted
+pub graph_read : {K : Type 0} (shelf : Shelf.Ghosts K) (old new : K) (limits : Limits) (name : List ℕ) (triples : List Triple) →
+    IfSome (shelf.held old) (λ files. GraphSays limits (bytes_of files name) (Ok triples)) → shelf.faults new ≡ shelf.faults old → shelf.held new ≡ shelf.held old →
+    ReadSoFar shelf old new limits ((Graph, name) ∷ []) (left_by limits triples)
+graph_read shelf old new limits name triples says count same =
+    read_next shelf old old new limits limits [] Graph name (read_none shelf old limits) (left_by limits triples)
+    (told_more (shelf.held old) (λ files. GraphSays limits (bytes_of files name) (Ok triples)) (λ files. IsAcceptedLeaving limits files Graph name (left_by limits triples))
+    (λ files h. (triples, h, refl)) says) count same
 
 -- ---- how far a refused command read
 
@@ -136,6 +183,7 @@ module _ {K : Type 0} (shelf : Shelf.Ghosts K) (old new : K) (limits : Limits) (
   -- a chase that is refused at its graph, and one that is refused at its keys
   pub stops_at_graph : (refusal : Refusal) → StopsAt shelf old new limits Graph graph refusal → ChaseStops shelf old new graph keys limits refusal
   stops_at_graph (InGraph refusal) h = h
+  stops_at_graph (InMore refusal) h = absurd h
   stops_at_graph (InKeys refusal) h = absurd h
   stops_at_graph (InProof refusal) h = absurd h
   stops_at_graph (NoSuchEntity asked) h = absurd h
@@ -143,6 +191,7 @@ module _ {K : Type 0} (shelf : Shelf.Ghosts K) (old new : K) (limits : Limits) (
 
   pub stops_at_keys : (refusal : Refusal) → StopsAt shelf old new limits Keys keys refusal → ChaseStops shelf old new graph keys limits refusal
   stops_at_keys (InGraph refusal) h = absurd h
+  stops_at_keys (InMore refusal) h = absurd h
   stops_at_keys (InKeys refusal) h = h
   stops_at_keys (InProof refusal) h = absurd h
   stops_at_keys (NoSuchEntity asked) h = absurd h
@@ -151,6 +200,7 @@ module _ {K : Type 0} (shelf : Shelf.Ghosts K) (old new : K) (limits : Limits) (
   -- a check that is refused at each of its files
   pub check_stops_at_graph : (refusal : Refusal) → StopsAt shelf old new limits Graph graph refusal → StopsReading shelf old new (Some (Checking graph keys proof)) limits refusal
   check_stops_at_graph (InGraph refusal) h = h
+  check_stops_at_graph (InMore refusal) h = absurd h
   check_stops_at_graph (InKeys refusal) h = absurd h
   check_stops_at_graph (InProof refusal) h = absurd h
   check_stops_at_graph (NoSuchEntity asked) h = absurd h
@@ -158,6 +208,7 @@ module _ {K : Type 0} (shelf : Shelf.Ghosts K) (old new : K) (limits : Limits) (
 
   pub check_stops_at_keys : (refusal : Refusal) → StopsAt shelf old new limits Keys keys refusal → StopsReading shelf old new (Some (Checking graph keys proof)) limits refusal
   check_stops_at_keys (InGraph refusal) h = absurd h
+  check_stops_at_keys (InMore refusal) h = absurd h
   check_stops_at_keys (InKeys refusal) h = h
   check_stops_at_keys (InProof refusal) h = absurd h
   check_stops_at_keys (NoSuchEntity asked) h = absurd h
@@ -165,6 +216,7 @@ module _ {K : Type 0} (shelf : Shelf.Ghosts K) (old new : K) (limits : Limits) (
 
   pub check_stops_at_proof : (refusal : Refusal) → StopsAt shelf old new limits Proof proof refusal → StopsReading shelf old new (Some (Checking graph keys proof)) limits refusal
   check_stops_at_proof (InGraph refusal) h = absurd h
+  check_stops_at_proof (InMore refusal) h = absurd h
   check_stops_at_proof (InKeys refusal) h = absurd h
   check_stops_at_proof (InProof refusal) h = h
   check_stops_at_proof (NoSuchEntity asked) h = absurd h
@@ -173,6 +225,7 @@ module _ {K : Type 0} (shelf : Shelf.Ghosts K) (old new : K) (limits : Limits) (
   -- a proof file that is not converted
   pub convert_stops : (refusal : Refusal) → StopsAt shelf old new limits Proof proof refusal → StopsReading shelf old new (Some (Converting proof)) limits refusal
   convert_stops (InGraph refusal) h = absurd h
+  convert_stops (InMore refusal) h = absurd h
   convert_stops (InKeys refusal) h = absurd h
   convert_stops (InProof refusal) h = h
   convert_stops (NoSuchEntity asked) h = absurd h
@@ -182,7 +235,7 @@ module _ {K : Type 0} (shelf : Shelf.Ghosts K) (old new : K) (limits : Limits) (
 
 module _ (limits : Limits) (files : NamedFiles) (graph keys : List ℕ) (triples : List Triple) (key_list : List KeyShape) (in_graph : GraphSays limits (bytes_of files graph) (Ok triples)) (in_keys : KeyFileSays limits (bytes_of files keys) (Ok key_list)) where
   both_accepted : AllAccepted limits files ((Graph, graph) ∷ (Keys, keys) ∷ [])
-  both_accepted = ((triples, in_graph), ((key_list, in_keys), tt))
+  both_accepted = (left_by limits triples, (triples, in_graph, refl), (left_by limits triples, (key_list, in_keys, refl), tt))
 
   -- the names can be spelled, and the keys have names
   spelled : All CanBeSpelled (names_for triples key_list)
@@ -324,6 +377,7 @@ module _ {K : Type 0} (shelf : Shelf.Ghosts K) (old new : K) (limits : Limits) (
     left,
   )
   explain_ended left first second (Err (Refused (InGraph refusal))) h = absurd h
+  explain_ended left first second (Err (Refused (InMore refusal))) h = absurd h
   explain_ended left first second (Err (Refused (InKeys refusal))) h = absurd h
   explain_ended left first second (Err (Refused (InProof refusal))) h = absurd h
   explain_ended left first second (Err (Refused (NoSuchEntity First))) h =
@@ -345,7 +399,11 @@ module _ {K : Type 0} (shelf : Shelf.Ghosts K) (old new : K) (limits : Limits) (
       count,
       told_both (shelf.held old) _ _ (λ files. IsAnswered (Some (Checking graph keys proof)) files limits answer (vec_items text))
           (λ files g p. (
-            (((triples, g), ((key_list, p.0), ((steps, p.1), tt))), tt, (λ h. h)),
+            (
+              (left_by limits triples, (triples, g, refl), (left_by limits triples, (key_list, p.0, refl), (left_by limits triples, (steps, p.1, refl), tt))),
+              tt,
+              (λ h. h),
+            ),
             (triples, key_list, steps, g, p.0, p.1, a, t),
           ))
           in_graph (told_both (shelf.held old) _ _ (λ files. KeyFileSays limits (bytes_of files keys) (Ok key_list) × ProofFileSays limits (bytes_of files proof) (Ok steps)) (λ files k p. (k, p)) in_keys in_proof),
@@ -360,7 +418,7 @@ pub convert_ended : {K : Type 0} (shelf : Shelf.Ghosts K) (old new : K) (limits 
 convert_ended shelf old new limits proof steps text count in_proof left t = (
   count,
   told_more (shelf.held old) _ (λ files. IsAnswered (Some (Converting proof)) files limits Given (vec_items text))
-      (λ files p. ((((steps, p), tt), tt, (λ h. h)), (steps, p, t))) in_proof,
+      (λ files p. (((limits, (steps, p, refl), tt), tt, (λ h. h)), (steps, p, t))) in_proof,
   left,
 )
 
@@ -372,12 +430,15 @@ pub before_chase : {K : Type 0} (shelf : Shelf.Ghosts K) (before after : K) (lim
 before_chase shelf before after limits file name NoCommand h = tt
 before_chase shelf before after limits file name (Failed which) h = tt
 before_chase shelf before after limits file name (Refused (InGraph refusal)) h = tt
+before_chase shelf before after limits file name (Refused (InMore refusal)) h = tt
 before_chase shelf before after limits file name (Refused (InKeys refusal)) h = tt
 before_chase shelf before after limits file name (Refused (InProof refusal)) h = tt
 before_chase shelf before after limits Graph name (Refused (NoSuchEntity asked)) h = h.2
+before_chase shelf before after limits More name (Refused (NoSuchEntity asked)) h = h.2
 before_chase shelf before after limits Keys name (Refused (NoSuchEntity asked)) h = h.2
 before_chase shelf before after limits Proof name (Refused (NoSuchEntity asked)) h = h.2
 before_chase shelf before after limits Graph name (Refused (MorePairsThan limit)) h = h.2
+before_chase shelf before after limits More name (Refused (MorePairsThan limit)) h = h.2
 before_chase shelf before after limits Keys name (Refused (MorePairsThan limit)) h = h.2
 before_chase shelf before after limits Proof name (Refused (MorePairsThan limit)) h = h.2
 before_chase shelf before after limits file name NoMemory h = tt
@@ -388,6 +449,7 @@ refused_alike : (limits : Limits) (files : NamedFiles) (graph keys : List ℕ) (
     IsRefused (Some (Matching graph keys)) files limits refusal → IsRefused (Some command) files limits refusal
 refused_alike limits files graph keys command e refusal b (inl h) = inl (subst (λ fs. FirstRefused limits files fs refusal) (sym e) h)
 refused_alike limits files graph keys command e (InGraph refusal) b (inr h) = absurd h.1
+refused_alike limits files graph keys command e (InMore refusal) b (inr h) = absurd h.1
 refused_alike limits files graph keys command e (InKeys refusal) b (inr h) = absurd h.1
 refused_alike limits files graph keys command e (InProof refusal) b (inr h) = absurd h.1
 refused_alike limits files graph keys command e (NoSuchEntity asked) b (inr h) = absurd b

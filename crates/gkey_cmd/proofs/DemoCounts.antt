@@ -1,5 +1,5 @@
 -- The counts of the graph that was built are those of the triples.
-use Rattle.std.proofs.Common.{List, ℕ, AllPairs, Contains, length, get_or, ◌↔◌, ◌≡◌, ◌≢◌, ◌∙◌, ◌<◌, sym, ap, subst}
+use Rattle.std.proofs.Common.{List, ℕ, AllPairs, length, get_or, ◌↔◌, ◌≡◌, ◌≢◌, ◌∙◌, ◌<◌, sym, ap, subst}
 use Rattle.std.specs.Ordering.{nat_cmp, ordering_reverse}
 use Rattle.std.specs.declared.cmp.Ordering.TheVariants.{Less, Greater}
 use Rattle.std.specs.Cmp.{IsTotalOrder}

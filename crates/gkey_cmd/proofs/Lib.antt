@@ -1,7 +1,9 @@
 mod Numbers
 mod Fronts
 mod Deciding
+mod RefusedOnce
 mod Running
+mod Growing
 mod Reports
 mod DemoCounts
 mod Derived

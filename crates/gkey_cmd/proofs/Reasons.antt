@@ -30,7 +30,7 @@ use Rattle.gkey_cmd.specs.WhyParts.{SpellsNumber, SpellTwo, TellsPair}
 use Rattle.gkey_cmd.specs.ChaseEnds.{IsWhyOfFiles, NameTwo, WhyEnds}
 use Rattle.gkey_cmd.specs.declared.ending.Answer.TheVariants.{Given}
 use Rattle.gkey_cmd.specs.declared.ending.Asked.TheVariants.{First, Second}
-use Rattle.gkey_cmd.specs.declared.ending.Refusal.TheVariants.{InGraph, InKeys, InProof, NoSuchEntity, MorePairsThan}
+use Rattle.gkey_cmd.specs.declared.ending.Refusal.TheVariants.{InGraph, InMore, InKeys, InProof, NoSuchEntity, MorePairsThan}
 use Rattle.gkey_cmd.specs.declared.ending.Ending.{Ending}
 use Rattle.gkey_cmd.specs.declared.ending.Ending.TheVariants.{NoCommand, Failed, Refused, NoMemory, Done}
 use Rattle.gkey_cmd.proofs.Derived.{derived_supported, few_entries, DerivationLaw, AcceptedLaw}
@@ -109,6 +109,7 @@ module _ (triples : List Triple) (keys : List KeyShape) (G : NumberedGraph) (nam
   -- how a run ends whose words don't both spell one
   pub words_end : (first second : List ℕ) (limit : ℕ) (ending : Ending) → SpellTwo G names first second (Err ending) → WhyEnds triples keys first second limit (Err ending)
   words_end first second limit (Refused (InGraph refusal)) h = h
+  words_end first second limit (Refused (InMore refusal)) h = h
   words_end first second limit (Refused (InKeys refusal)) h = h
   words_end first second limit (Refused (InProof refusal)) h = h
   words_end first second limit (Refused (NoSuchEntity First)) h = names_none triples keys G names K are_names built first h

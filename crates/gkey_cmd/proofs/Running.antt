@@ -1,36 +1,27 @@
 -- What a run leaves, from how it ends.
-use Rattle.std.proofs.Common.{List, [], ◌∷◌, ℕ, Option, Some, None, IfSome, IsTrue, vec_items, Ok, Err, ◌==◌, ◌≡◌, ◌≢◌, ◌⊎◌, ◌↔◌, ◌∙◌, inl, inr, refl, sym, ap, subst, append-nil, arith}
+use Rattle.std.proofs.Common.{List, [], ◌∷◌, ℕ, Option, Some, None, IfSome, IsTrue, vec_items, ◌==◌, ◌≡◌, ◌≢◌, ◌⊎◌, ◌↔◌, ◌∙◌, inl, inr, refl, sym, ap, subst, append-nil, arith}
 use Rattle.std.specs.List.{list_any}
 use Rattle.gk_base.specs.declared.limits.Limits.{Limits}
-use Rattle.gk_base.specs.declared.term.Triple.{Triple}
 use Rattle.gk_io.specs.Cause.{Rose}
-use Rattle.gk_io.specs.Files.{bytes_of}
 use Rattle.gk_io.specs.Taken.{Appends}
 use Rattle.gk_io.specs.declared.shelf.Shelf
 use Rattle.gk_io.specs.declared.sink.Sink
-use Rattle.nt_reader.proofs.CallerLemmas.{file_once}
-use Rattle.key_lang.proofs.CallerLemmas.{keys_once}
-use Rattle.proof_graph.proofs.CallerLemmas.{proof_once}
 use Rattle.graph_rows.proofs.CallerLemmas.{told, told_more}
-use Rattle.gkey_cmd.specs.Commands.{Wanted, Matching, Proving, Checking, Converting, Demonstrating, Merging, Explaining, files_of}
+use Rattle.gkey_cmd.specs.Commands.{Wanted, Demonstrating}
 use Rattle.gkey_cmd.specs.Texts.{usage, out_of_memory, write_failed, read_failed, refused_text}
-use Rattle.gkey_cmd.specs.Reading.{NamedFiles, IsAccepted, GraphSays, IsRefusedSo, AllAccepted, FirstRefused}
+use Rattle.gkey_cmd.specs.Reading.{NamedFiles}
 use Rattle.gkey_cmd.specs.HowFar.{LeavesFiles, StopsReading}
 use Rattle.gkey_cmd.specs.Failing.{HasFailed}
 use Rattle.gkey_cmd.specs.Sent.{TookAll, TookLess, Sent}
-use Rattle.gkey_cmd.specs.Entities.{NamesOne}
-use Rattle.gkey_cmd.specs.Written.{status_of, IsAnswer, HasMorePairs, LacksEntity, HasEntities, IsRefusedAfter, IsRefused, AreAccepted, IsAnswered, WritesFor, AsNoCommand, AsRefused, AsAnswered}
+use Rattle.gkey_cmd.specs.Written.{status_of, IsAnswer, IsRefused, AreAccepted, IsAnswered, WritesFor, AsNoCommand, AsRefused, AsAnswered}
 use Rattle.gkey_cmd.specs.Demo.{files_for}
 use Rattle.gkey_cmd.specs.Endings.{Caused, IsNoFailure, LeavesShelf, IsReportedAs, IsTold}
 use Rattle.gkey_cmd.specs.Run.{IsRun}
+use Rattle.gkey_cmd.proofs.RefusedOnce.{refusal_once, not_refused}
 use Rattle.gkey_cmd.specs.declared.file.File.{File}
-use Rattle.gkey_cmd.specs.declared.file.File.TheVariants.{Graph, Keys, Proof}
 use Rattle.gkey_cmd.specs.declared.ending.Answer.{Answer}
 use Rattle.gkey_cmd.specs.declared.ending.Answer.TheVariants.{Given, NotAccepted, NotTheSame}
-use Rattle.gkey_cmd.specs.declared.ending.Asked.{Asked}
-use Rattle.gkey_cmd.specs.declared.ending.Asked.TheVariants.{First, Second}
 use Rattle.gkey_cmd.specs.declared.ending.Refusal.{Refusal}
-use Rattle.gkey_cmd.specs.declared.ending.Refusal.TheVariants.{InGraph, InKeys, InProof, NoSuchEntity, MorePairsThan}
 use Rattle.gkey_cmd.specs.declared.ending.Ending.{Ending}
 use Rattle.gkey_cmd.specs.declared.ending.Ending.TheVariants.{NoCommand, Failed, Refused, NoMemory, Done}
 
@@ -84,146 +75,6 @@ no_answer status other e one zero h = elim h [ inl k ↦ zero (sym k ∙ e) | in
 
 no_answer_nor_four : (status other : ℕ) → status ≡ other → 1 ≢ other → 0 ≢ other → 4 ≢ other → IsAnswer status ⊎ (status ≡ 4) → ⊥
 no_answer_nor_four status other e one zero four h = elim h [ inl k ↦ no_answer status other e one zero k | inr k ↦ four (sym k ∙ e) ]
-
--- ---- a file is accepted, or refused in one way
-
-refused_once : (limits : Limits) (files : NamedFiles) (file : File) (name : List ℕ) (r s : Refusal) → IsRefusedSo limits files file name r → IsRefusedSo limits files file name s → r ≡ s
-refused_once limits files Graph name (InGraph r) (InGraph s) h k =
-    let one : Err r ≡ Err s = file_once limits (bytes_of files name) (Err r) (Err s) h k in
-    let same : r ≡ s = cc in ap InGraph same
-refused_once limits files Graph name (InGraph r) (InKeys s) h k = absurd k
-refused_once limits files Graph name (InGraph r) (InProof s) h k = absurd k
-refused_once limits files Graph name (InGraph r) (NoSuchEntity asked) h k = absurd k
-refused_once limits files Graph name (InGraph r) (MorePairsThan n) h k = absurd k
-refused_once limits files Graph name (InKeys r) s h k = absurd h
-refused_once limits files Graph name (InProof r) s h k = absurd h
-refused_once limits files Graph name (NoSuchEntity asked) s h k = absurd h
-refused_once limits files Graph name (MorePairsThan n) s h k = absurd h
-refused_once limits files Keys name (InKeys r) (InKeys s) h k =
-    let one : Err r ≡ Err s = keys_once limits.key_bytes (bytes_of files name) (Err r) (Err s) h k in
-    let same : r ≡ s = cc in ap InKeys same
-refused_once limits files Keys name (InKeys r) (InGraph s) h k = absurd k
-refused_once limits files Keys name (InKeys r) (InProof s) h k = absurd k
-refused_once limits files Keys name (InKeys r) (NoSuchEntity asked) h k = absurd k
-refused_once limits files Keys name (InKeys r) (MorePairsThan n) h k = absurd k
-refused_once limits files Keys name (InGraph r) s h k = absurd h
-refused_once limits files Keys name (InProof r) s h k = absurd h
-refused_once limits files Keys name (NoSuchEntity asked) s h k = absurd h
-refused_once limits files Keys name (MorePairsThan n) s h k = absurd h
-refused_once limits files Proof name (InProof r) (InProof s) h k =
-    let one : Err r ≡ Err s = proof_once limits.bytes (bytes_of files name) (Err r) (Err s) h k in
-    let same : r ≡ s = cc in ap InProof same
-refused_once limits files Proof name (InProof r) (InGraph s) h k = absurd k
-refused_once limits files Proof name (InProof r) (InKeys s) h k = absurd k
-refused_once limits files Proof name (InProof r) (NoSuchEntity asked) h k = absurd k
-refused_once limits files Proof name (InProof r) (MorePairsThan n) h k = absurd k
-refused_once limits files Proof name (InGraph r) s h k = absurd h
-refused_once limits files Proof name (InKeys r) s h k = absurd h
-refused_once limits files Proof name (NoSuchEntity asked) s h k = absurd h
-refused_once limits files Proof name (MorePairsThan n) s h k = absurd h
-
-not_both : (limits : Limits) (files : NamedFiles) (file : File) (name : List ℕ) (r : Refusal) → IsRefusedSo limits files file name r → IsAccepted limits files file name → ⊥
-not_both limits files Graph name (InGraph r) h k =
-    let one : Err r ≡ Ok k.0 = file_once limits (bytes_of files name) (Err r) (Ok k.0) h k.1 in cc
-not_both limits files Graph name (InKeys r) h k = h
-not_both limits files Graph name (InProof r) h k = h
-not_both limits files Keys name (InKeys r) h k =
-    let one : Err r ≡ Ok k.0 = keys_once limits.key_bytes (bytes_of files name) (Err r) (Ok k.0) h k.1 in cc
-not_both limits files Keys name (InGraph r) h k = h
-not_both limits files Keys name (InProof r) h k = h
-not_both limits files Proof name (InProof r) h k =
-    let one : Err r ≡ Ok k.0 = proof_once limits.bytes (bytes_of files name) (Err r) (Ok k.0) h k.1 in cc
-not_both limits files Proof name (InGraph r) h k = h
-not_both limits files Proof name (InKeys r) h k = h
-not_both limits files Proof name (MorePairsThan n) h k = h
-not_both limits files Proof name (NoSuchEntity asked) h k = h
-not_both limits files Graph name (MorePairsThan n) h k = h
-not_both limits files Graph name (NoSuchEntity asked) h k = h
-not_both limits files Keys name (MorePairsThan n) h k = h
-not_both limits files Keys name (NoSuchEntity asked) h k = h
-
-first_once : (limits : Limits) (files : NamedFiles) (list : List (File × List ℕ)) (r s : Refusal) → FirstRefused limits files list r → FirstRefused limits files list s → r ≡ s
-first_once limits files [] r s h k = absurd h
-first_once limits files (file ∷ others) r s (inl h) (inl k) = refused_once limits files file.0 file.1 r s h k
-first_once limits files (file ∷ others) r s (inl h) (inr k) = absurd (not_both limits files file.0 file.1 r h k.0)
-first_once limits files (file ∷ others) r s (inr h) (inl k) = absurd (not_both limits files file.0 file.1 s k h.0)
-first_once limits files (file ∷ others) r s (inr h) (inr k) = first_once limits files others r s h.1 k.1
-
-not_accepted : (limits : Limits) (files : NamedFiles) (list : List (File × List ℕ)) (r : Refusal) → FirstRefused limits files list r → AllAccepted limits files list → ⊥
-not_accepted limits files [] r h k = h
-not_accepted limits files (file ∷ others) r (inl h) k = not_both limits files file.0 file.1 r h k.0
-not_accepted limits files (file ∷ others) r (inr h) k = not_accepted limits files others r h.1 k.1
-
--- ---- words for entities
-
--- a graph says one list of triples
-same_triples : (limits : Limits) (bytes : List ℕ) (triples others : List Triple) → GraphSays limits bytes (Ok triples) → GraphSays limits bytes (Ok others) → triples ≡ others
-same_triples limits bytes triples others h k = let one : Ok triples ≡ Ok others = file_once limits bytes (Ok triples) (Ok others) h k in cc
-
--- one of the words names no entity, or each names one
-lacks_or_has : (limits : Limits) (files : NamedFiles) (command : Wanted) (asked : Asked) → LacksEntity limits files command asked → HasEntities limits files command → ⊥
-lacks_or_has limits files (Matching graph keys) asked h k = h
-lacks_or_has limits files (Proving graph keys) asked h k = h
-lacks_or_has limits files (Checking graph keys proof) asked h k = h
-lacks_or_has limits files (Converting proof) asked h k = h
-lacks_or_has limits files (Demonstrating n) asked h k = h
-lacks_or_has limits files (Merging graph keys) asked h k = h
-lacks_or_has limits files (Explaining graph keys first second) First h k =
-    h.2 (subst (λ ts. NamesOne ts first) (same_triples limits (bytes_of files graph) k.0 h.0 k.1 h.1) k.2)
-lacks_or_has limits files (Explaining graph keys first second) Second h k =
-    h.3 (subst (λ ts. NamesOne ts second) (same_triples limits (bytes_of files graph) k.0 h.0 k.1 h.1) k.3)
-
--- one word is the first that names none
-asked_once : (limits : Limits) (files : NamedFiles) (command : Wanted) (one other : Asked) → LacksEntity limits files command one → LacksEntity limits files command other → one ≡ other
-asked_once limits files (Matching graph keys) one other h k = absurd h
-asked_once limits files (Proving graph keys) one other h k = absurd h
-asked_once limits files (Checking graph keys proof) one other h k = absurd h
-asked_once limits files (Converting proof) one other h k = absurd h
-asked_once limits files (Demonstrating n) one other h k = absurd h
-asked_once limits files (Merging graph keys) one other h k = absurd h
-asked_once limits files (Explaining graph keys first second) First First h k = refl
-asked_once limits files (Explaining graph keys first second) First Second h k =
-    absurd (h.2 (subst (λ ts. NamesOne ts first) (same_triples limits (bytes_of files graph) k.0 h.0 k.1 h.1) k.2))
-asked_once limits files (Explaining graph keys first second) Second First h k =
-    absurd (k.2 (subst (λ ts. NamesOne ts first) (same_triples limits (bytes_of files graph) h.0 k.0 h.1 k.1) h.2))
-asked_once limits files (Explaining graph keys first second) Second Second h k = refl
-
--- ---- a command is refused in one way
-
--- what comes after accepted files refuses in one way
-after_once : (limits : Limits) (files : NamedFiles) (command : Wanted) (r s : Refusal) → IsRefusedAfter limits files command r → IsRefusedAfter limits files command s → r ≡ s
-after_once limits files command (InGraph r) s h k = absurd h
-after_once limits files command (InKeys r) s h k = absurd h
-after_once limits files command (InProof r) s h k = absurd h
-after_once limits files command (NoSuchEntity r) (InGraph s) h k = absurd k
-after_once limits files command (NoSuchEntity r) (InKeys s) h k = absurd k
-after_once limits files command (NoSuchEntity r) (InProof s) h k = absurd k
-after_once limits files command (NoSuchEntity r) (NoSuchEntity s) h k = ap NoSuchEntity (asked_once limits files command r s h k)
-after_once limits files command (NoSuchEntity r) (MorePairsThan n) h k = absurd (lacks_or_has limits files command r h k.0)
-after_once limits files command (MorePairsThan n) (InGraph s) h k = absurd k
-after_once limits files command (MorePairsThan n) (InKeys s) h k = absurd k
-after_once limits files command (MorePairsThan n) (InProof s) h k = absurd k
-after_once limits files command (MorePairsThan n) (NoSuchEntity s) h k = absurd (lacks_or_has limits files command s k h.0)
-after_once limits files command (MorePairsThan n) (MorePairsThan m) h k = ap MorePairsThan (h.2 ∙ sym k.2)
-
-refusal_once : (limits : Limits) (files : NamedFiles) (command : Wanted) (r s : Refusal) → IsRefused (Some command) files limits r → IsRefused (Some command) files limits s → r ≡ s
-refusal_once limits files command r s (inl h) (inl k) = first_once limits files (files_of command) r s h k
-refusal_once limits files command r s (inl h) (inr k) = absurd (not_accepted limits files (files_of command) r h k.0)
-refusal_once limits files command r s (inr h) (inl k) = absurd (not_accepted limits files (files_of command) s k h.0)
-refusal_once limits files command r s (inr h) (inr k) = after_once limits files command r s h.1 k.1
-
--- nothing refuses it after accepted files where its words name entities and there are no more pairs than the limit
-not_after : (limits : Limits) (files : NamedFiles) (command : Wanted) (r : Refusal) → IsRefusedAfter limits files command r → HasEntities limits files command → ¬ (HasMorePairs limits files command) → ⊥
-not_after limits files command (InGraph r) h entities few = h
-not_after limits files command (InKeys r) h entities few = h
-not_after limits files command (InProof r) h entities few = h
-not_after limits files command (NoSuchEntity r) h entities few = lacks_or_has limits files command r h entities
-not_after limits files command (MorePairsThan n) h entities few = few h.1
-
--- it is not refused where it is accepted
-not_refused : (limits : Limits) (files : NamedFiles) (command : Wanted) (r : Refusal) → IsRefused (Some command) files limits r → AreAccepted (Some command) files limits → ⊥
-not_refused limits files command r (inl h) k = not_accepted limits files (files_of command) r h k.0
-not_refused limits files command r (inr h) k = not_after limits files command r h.1 k.1 k.2
 
 -- ---- a whole run
 

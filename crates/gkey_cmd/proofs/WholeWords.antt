@@ -1,5 +1,5 @@
 -- What a whole word spells is what is read from its start on.
-use Rattle.std.proofs.Common.{List, [], ◌∷◌, ◌++◌, ℕ, ◌+◌, Result, Ok, Err, length, encode_utf8, ◌≡◌, refl, sym, ap, arith, append-nil, length-append}
+use Rattle.std.proofs.Common.{List, [], ◌∷◌, ◌++◌, ℕ, Result, Ok, Err, length, encode_utf8, ◌≡◌, refl, sym, ap, arith, append-nil, length-append}
 use Rattle.std.proofs.lemmas.Str.{length-encode, len_utf8_bounds}
 use Rattle.gk_base.specs.declared.lex_fault.LexFault.{LexFault}
 use Rattle.gk_base.specs.declared.term.Term.{Term}

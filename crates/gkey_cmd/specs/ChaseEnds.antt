@@ -20,7 +20,7 @@ use Rattle.gkey_cmd.specs.Explained.{IsReason, SpellApart, not_the_same}
 use Rattle.gkey_cmd.specs.declared.ending.Answer.{Answer}
 use Rattle.gkey_cmd.specs.declared.ending.Answer.TheVariants.{Given, NotAccepted, NotTheSame}
 use Rattle.gkey_cmd.specs.declared.ending.Asked.TheVariants.{First, Second}
-use Rattle.gkey_cmd.specs.declared.ending.Refusal.TheVariants.{InGraph, InKeys, InProof, NoSuchEntity, MorePairsThan}
+use Rattle.gkey_cmd.specs.declared.ending.Refusal.TheVariants.{InGraph, InMore, InKeys, InProof, NoSuchEntity, MorePairsThan}
 use Rattle.gkey_cmd.specs.declared.ending.Ending.{Ending}
 use Rattle.gkey_cmd.specs.declared.ending.Ending.TheVariants.{NoCommand, Failed, Refused, NoMemory, Done}
 
@@ -68,6 +68,7 @@ NameTwo triples first second = NamesOne triples first × NamesOne triples second
 abbrev pub WhyEnds : List Triple → List KeyShape → (first second : List ℕ) → ℕ → Result (Answer × Vec ℕ Global) Ending → Type 0
 WhyEnds triples keys first second limit (Ok r) = NameTwo triples first second × ¬ (HasTooManyPairs triples keys limit) × IsWhyOfFiles triples keys first second r.0 (vec_items r.1)
 WhyEnds triples keys first second limit (Err (Refused (InGraph refusal))) = ⊥
+WhyEnds triples keys first second limit (Err (Refused (InMore refusal))) = ⊥
 WhyEnds triples keys first second limit (Err (Refused (InKeys refusal))) = ⊥
 WhyEnds triples keys first second limit (Err (Refused (InProof refusal))) = ⊥
 WhyEnds triples keys first second limit (Err (Refused (NoSuchEntity First))) = ¬ (NamesOne triples first)
@@ -78,7 +79,7 @@ WhyEnds triples keys first second limit (Err NoCommand) = ⊥
 WhyEnds triples keys first second limit (Err (Failed file)) = ⊥
 WhyEnds triples keys first second limit (Err (Done answer text)) = ⊥
 
--- so ends a match, so a proof, so a demo, and so a merge
+-- so ends a match, and the growth of a graph, of which these are all triples; so a proof, so a demo, and so a merge
 abbrev pub MatchEnds : List Triple → List KeyShape → ℕ → Result (Vec ℕ Global) Ending → Type 0
 MatchEnds triples keys limit result = ChaseEnds IsReport triples keys limit result
 

@@ -2,9 +2,9 @@
 use Rattle.std.specs.Prelude.{List, [], ◌∷◌, ℕ, zero, suc, Bool, ◌<◌, ◌≤◌, Option, Some, None, option_map, is_some, ◌&&◌, codes, bytes_eq, if◌then◌else◌, ◌≡◌}
 use Rattle.std.specs.Fmt.{decimal}
 use Rattle.gkey_cmd.specs.declared.file.File.{File}
-use Rattle.gkey_cmd.specs.declared.file.File.TheVariants.{Graph, Keys, Proof}
+use Rattle.gkey_cmd.specs.declared.file.File.TheVariants.{Graph, More, Keys, Proof}
 use Rattle.gkey_cmd.specs.declared.words.Command.{Command}
-use Rattle.gkey_cmd.specs.declared.words.Command.TheVariants.{Match, Prove, Check, Convert, Demo, Merge, Why}
+use Rattle.gkey_cmd.specs.declared.words.Command.TheVariants.{Match, Prove, Check, Convert, Demo, Merge, Why, Grow}
 
 -- a command with the names of its files and the words for two entities, or with the number of a demo
 pub data Wanted : Type 0 where
@@ -15,6 +15,7 @@ pub data Wanted : Type 0 where
   Demonstrating : (n : ℕ) → Wanted
   Merging : (graph keys : List ℕ) → Wanted
   Explaining : (graph keys first second : List ℕ) → Wanted
+  Growing : (graph more keys : List ℕ) → Wanted
 
 -- the number from 1 to the most that a word is in decimal, without sign and without leading zero
 unfoldable pub number_to : (most : ℕ) (word : List ℕ) → Option ℕ
@@ -34,18 +35,24 @@ abbrev pub are_workers : (option workers : List ℕ) → Bool
 are_workers option workers = bytes_eq option (codes "--workers") && is_some (number_to 64 workers)
 
 -- the table of the accepted words: `match GRAPH KEYS` and `match --workers N GRAPH KEYS`, with `prove` and `merge` in the same
--- two ways, `check GRAPH KEYS PROOF`, `convert PROOF`, `demo N`, and `why GRAPH KEYS A B` and `why --workers N GRAPH KEYS A B`
+-- two ways, `check GRAPH KEYS PROOF`, `convert PROOF`, `demo N`, `why GRAPH KEYS A B` and `why --workers N GRAPH KEYS A B`, and
+-- `grow GRAPH MORE KEYS` and `grow --workers N GRAPH MORE KEYS`
 abbrev pub wanted : List (List ℕ) → Option Wanted
 wanted (command ∷ argument ∷ []) =
     if bytes_eq command (codes "convert") then Some (Converting argument)
     else if bytes_eq command (codes "demo") then option_map Demonstrating (number_to 100000 argument)
     else None
 wanted (command ∷ graph ∷ keys ∷ []) = chase_of command graph keys
-wanted (command ∷ graph ∷ keys ∷ proof ∷ []) = if bytes_eq command (codes "check") then Some (Checking graph keys proof) else None
+wanted (command ∷ a ∷ b ∷ c ∷ []) =
+    if bytes_eq command (codes "check") then Some (Checking a b c)
+    else if bytes_eq command (codes "grow") then Some (Growing a b c)
+    else None
 wanted (command ∷ a ∷ b ∷ c ∷ d ∷ []) =
     if bytes_eq command (codes "why") then Some (Explaining a b c d)
     else if are_workers a b then chase_of command c d
     else None
+wanted (command ∷ option ∷ workers ∷ graph ∷ more ∷ keys ∷ []) =
+    if bytes_eq command (codes "grow") && are_workers option workers then Some (Growing graph more keys) else None
 wanted (command ∷ option ∷ workers ∷ graph ∷ keys ∷ first ∷ second ∷ []) =
     if bytes_eq command (codes "why") && are_workers option workers then Some (Explaining graph keys first second) else None
 wanted words = None
@@ -66,10 +73,12 @@ files_of (Converting proof) = (Proof, proof) ∷ []
 files_of (Demonstrating n) = (Graph, demo_graph_name) ∷ (Keys, demo_keys_name) ∷ []
 files_of (Merging graph keys) = (Graph, graph) ∷ (Keys, keys) ∷ []
 files_of (Explaining graph keys first second) = (Graph, graph) ∷ (Keys, keys) ∷ []
+files_of (Growing graph more keys) = (Graph, graph) ∷ (More, more) ∷ (Keys, keys) ∷ []
 
 -- how many workers the words of a chase ask for: 4 where they name none
 abbrev pub workers_of : List (List ℕ) → Option ℕ
 workers_of (command ∷ a ∷ b ∷ c ∷ d ∷ []) = if bytes_eq command (codes "why") then Some 4 else number_to 64 b
+workers_of (command ∷ option ∷ workers ∷ graph ∷ more ∷ keys ∷ []) = number_to 64 workers
 workers_of (command ∷ option ∷ workers ∷ graph ∷ keys ∷ first ∷ second ∷ []) = number_to 64 workers
 workers_of words = Some 4
 
@@ -89,6 +98,7 @@ IsChaseOf asked workers (Convert proof) = ⊥
 IsChaseOf asked workers (Demo n) = ⊥
 IsChaseOf asked workers (Merge w graph keys) = (asked ≡ Some (Merging graph.now keys.now)) × (w ≡ workers)
 IsChaseOf asked workers (Why w graph keys first second) = ⊥
+IsChaseOf asked workers (Grow w graph more keys) = ⊥
 
 -- the command for these words
 abbrev pub IsCommand : List (List ℕ) → Command → Type 0
@@ -99,3 +109,4 @@ IsCommand words (Convert proof) = wanted words ≡ Some (Converting proof.now)
 IsCommand words (Demo n) = (wanted words ≡ Some (Demonstrating n)) × (0 < n) × (n ≤ 100000)
 IsCommand words (Merge workers graph keys) = IsChaseCommand words (Merging graph.now keys.now) workers
 IsCommand words (Why workers graph keys first second) = IsChaseCommand words (Explaining graph.now keys.now first.now second.now) workers
+IsCommand words (Grow workers graph more keys) = IsChaseCommand words (Growing graph.now more.now keys.now) workers

@@ -11,7 +11,7 @@ use Rattle.key_file.specs.Numbered.{names_for, graph_of}
 use Rattle.demo_graph.specs.DemoTexts.{demo_graph_text, demo_keys_text}
 use Rattle.demo_graph.specs.DemoLine.{demo_line_text}
 use Rattle.demo_graph.specs.Counts.{IsPlaceCount}
-use Rattle.gkey_cmd.specs.Commands.{Wanted, Matching, Proving, Checking, Converting, Demonstrating, Merging, Explaining, demo_graph_name, demo_keys_name}
+use Rattle.gkey_cmd.specs.Commands.{Wanted, Matching, Proving, Checking, Converting, Demonstrating, Merging, Explaining, Growing, demo_graph_name, demo_keys_name}
 use Rattle.gkey_cmd.specs.Reading.{NamedFiles}
 
 -- ---- the files
@@ -31,6 +31,7 @@ files_for (Some (Converting proof)) held = held
 files_for (Some (Demonstrating n)) held = Some (demo_files n)
 files_for (Some (Merging graph keys)) held = held
 files_for (Some (Explaining graph keys first second)) held = held
+files_for (Some (Growing graph more keys)) held = held
 
 -- ---- the line
 

@@ -1,5 +1,5 @@
 -- How a run ends before anything is written, and what is written then: this project's own words.
-use Rattle.std.specs.Prelude.{List, ℕ, ◌≡◌, ◌⊎◌, Option, Some, None, Ok, IfSome, vec_items, ⊤}
+use Rattle.std.specs.Prelude.{List, [], ◌∷◌, ◌++◌, ℕ, ◌≡◌, ◌⊎◌, Option, Some, None, Ok, IfSome, vec_items, ⊤}
 use Rattle.gk_base.specs.declared.limits.Limits.{Limits}
 use Rattle.gk_base.specs.declared.read_fault.ReadRefusal.{ReadRefusal}
 use Rattle.gk_base.specs.declared.stop.Stop.{Stop}
@@ -13,22 +13,23 @@ use Rattle.gk_io.specs.declared.shelf.Shelf
 use Rattle.gk_io.specs.declared.sink.Sink
 use Rattle.key_lang.specs.declared.fault.KeyRefusal.{KeyRefusal}
 use Rattle.proof_graph.specs.declared.fault.ProofRefusal.{ProofRefusal}
-use Rattle.graph_rows.specs.GraphFile.{GraphStops}
+use Rattle.graph_rows.specs.GraphFile.{GraphStops, AreMoreRowsOf}
 use Rattle.graph_rows.specs.Rows.{StandFor}
 use Rattle.graph_rows.specs.declared.rows.Rows.{Rows}
+use Rattle.graph_rows.specs.declared.pieces.MoreRows.{MoreRows}
 use Rattle.key_file.specs.KeyShape.{KeyShape}
 use Rattle.gkey_cmd.specs.Commands.{Wanted, Demonstrating}
 use Rattle.gkey_cmd.specs.Texts.{usage, out_of_memory, write_failed, read_failed, refused_text}
-use Rattle.gkey_cmd.specs.Reading.{NamedFiles, GraphSays, KeyFileSays, IsRefusedSo, AllAccepted}
+use Rattle.gkey_cmd.specs.Reading.{NamedFiles, GraphSays, KeyFileSays, left_by, IsAcceptedLeaving, IsRefusedSo}
 use Rattle.gkey_cmd.specs.HowFar.{KeysLeft, ProofLeft, LeavesFiles, StopsReading}
 use Rattle.gkey_cmd.specs.Failing.{HasFailed}
 use Rattle.gkey_cmd.specs.Sent.{TookAll, TookLess, Sent}
 use Rattle.gkey_cmd.specs.Written.{status_of, IsRefused, IsAnswered}
 use Rattle.gkey_cmd.specs.Demo.{demo_files, files_for}
 use Rattle.gkey_cmd.specs.declared.file.File.{File}
-use Rattle.gkey_cmd.specs.declared.file.File.TheVariants.{Graph, Keys, Proof}
+use Rattle.gkey_cmd.specs.declared.file.File.TheVariants.{Graph, More, Keys, Proof}
 use Rattle.gkey_cmd.specs.declared.ending.Refusal.{Refusal}
-use Rattle.gkey_cmd.specs.declared.ending.Refusal.TheVariants.{InGraph, InKeys, InProof, NoSuchEntity, MorePairsThan}
+use Rattle.gkey_cmd.specs.declared.ending.Refusal.TheVariants.{InGraph, InMore, InKeys, InProof, NoSuchEntity, MorePairsThan}
 use Rattle.gkey_cmd.specs.declared.ending.Ending.{Ending}
 use Rattle.gkey_cmd.specs.declared.ending.Ending.TheVariants.{NoCommand, Failed, Refused, NoMemory, Done}
 
@@ -39,6 +40,12 @@ abbrev pub graph_ending : Stop (FileFault ReadRefusal) → Ending
 graph_ending stop.NoMemory = NoMemory
 graph_ending (stop.Fault fault.Failed) = Failed Graph
 graph_ending (stop.Fault (fault.Refused refusal)) = Refused (InGraph refusal)
+
+-- the ending of a run whose added graph is not to be had
+abbrev pub more_ending : Stop (FileFault ReadRefusal) → Ending
+more_ending stop.NoMemory = NoMemory
+more_ending (stop.Fault fault.Failed) = Failed More
+more_ending (stop.Fault (fault.Refused refusal)) = Refused (InMore refusal)
 
 -- the ending of a run whose key file says no keys
 abbrev pub keys_ending : Stop KeyRefusal → Ending
@@ -53,16 +60,25 @@ proof_ending (stop.Fault refusal) = Refused (InProof refusal)
 -- how far a file was read that is refused so
 abbrev pub StopsAt : {K : Type 0} (shelf : Shelf.Ghosts K) (shelf_before shelf_after : K) → Limits → File → (name : List ℕ) → Refusal → Type 0
 StopsAt shelf shelf_before shelf_after limits Graph name (InGraph refusal) = GraphStops shelf shelf_before shelf_after limits name
+StopsAt shelf shelf_before shelf_after limits Graph name (InMore refusal) = ⊥
 StopsAt shelf shelf_before shelf_after limits Graph name (InKeys refusal) = ⊥
 StopsAt shelf shelf_before shelf_after limits Graph name (InProof refusal) = ⊥
 StopsAt shelf shelf_before shelf_after limits Graph name (NoSuchEntity asked) = ⊥
 StopsAt shelf shelf_before shelf_after limits Graph name (MorePairsThan limit) = ⊥
+StopsAt shelf shelf_before shelf_after limits More name (InGraph refusal) = ⊥
+StopsAt shelf shelf_before shelf_after limits More name (InMore refusal) = GraphStops shelf shelf_before shelf_after limits name
+StopsAt shelf shelf_before shelf_after limits More name (InKeys refusal) = ⊥
+StopsAt shelf shelf_before shelf_after limits More name (InProof refusal) = ⊥
+StopsAt shelf shelf_before shelf_after limits More name (NoSuchEntity asked) = ⊥
+StopsAt shelf shelf_before shelf_after limits More name (MorePairsThan limit) = ⊥
 StopsAt shelf shelf_before shelf_after limits Keys name (InGraph refusal) = ⊥
+StopsAt shelf shelf_before shelf_after limits Keys name (InMore refusal) = ⊥
 StopsAt shelf shelf_before shelf_after limits Keys name (InKeys refusal) = KeysLeft shelf shelf_before shelf_after limits name
 StopsAt shelf shelf_before shelf_after limits Keys name (InProof refusal) = ⊥
 StopsAt shelf shelf_before shelf_after limits Keys name (NoSuchEntity asked) = ⊥
 StopsAt shelf shelf_before shelf_after limits Keys name (MorePairsThan limit) = ⊥
 StopsAt shelf shelf_before shelf_after limits Proof name (InGraph refusal) = ⊥
+StopsAt shelf shelf_before shelf_after limits Proof name (InMore refusal) = ⊥
 StopsAt shelf shelf_before shelf_after limits Proof name (InKeys refusal) = ⊥
 StopsAt shelf shelf_before shelf_after limits Proof name (InProof refusal) = ProofLeft shelf shelf_before shelf_after limits name
 StopsAt shelf shelf_before shelf_after limits Proof name (NoSuchEntity asked) = ⊥
@@ -110,6 +126,7 @@ abbrev pub IsBeforeChase : Ending → Type 0
 IsBeforeChase NoCommand = ⊤
 IsBeforeChase (Failed file) = ⊤
 IsBeforeChase (Refused (InGraph refusal)) = ⊤
+IsBeforeChase (Refused (InMore refusal)) = ⊤
 IsBeforeChase (Refused (InKeys refusal)) = ⊤
 IsBeforeChase (Refused (InProof refusal)) = ⊤
 IsBeforeChase (Refused (NoSuchEntity asked)) = ⊥
@@ -135,11 +152,16 @@ IsNoFailure (Done answer text) = ⊤
 abbrev pub LeavesShelf : {K : Type 0} (shelf_before shelf_after : K) → Option Wanted → Ending → Type 0
 LeavesShelf shelf_before shelf_after command ending = (n : ℕ) → command ≡ Some (Demonstrating n) → (shelf_after ≡ shelf_before) × IsNoFailure ending
 
--- the files so far were read and accepted
-pub record ReadSoFar {K : Type 0} (shelf : Shelf.Ghosts K) (shelf_before shelf_now : K) (limits : Limits) (so_far : List (File × List ℕ)) : Type 0 where
+-- each of these files is accepted, and together they leave these limits to the files after them
+abbrev pub AllAcceptedLeaving : Limits → NamedFiles → List (File × List ℕ) → (left : Limits) → Type 0
+AllAcceptedLeaving limits files [] left = left ≡ limits
+AllAcceptedLeaving limits files (file ∷ others) left = (next : Limits) × IsAcceptedLeaving limits files file.0 file.1 next × AllAcceptedLeaving next files others left
+
+-- the files so far were read and accepted, and leave these limits
+pub record ReadSoFar {K : Type 0} (shelf : Shelf.Ghosts K) (shelf_before shelf_now : K) (limits : Limits) (so_far : List (File × List ℕ)) (left : Limits) : Type 0 where
   pub count : shelf.faults shelf_now ≡ shelf.faults shelf_before
   pub held : shelf.held shelf_now ≡ shelf.held shelf_before
-  pub accepted : IfSome (shelf.held shelf_before) (λ files. AllAccepted limits files so_far)
+  pub accepted : IfSome (shelf.held shelf_before) (λ files. AllAcceptedLeaving limits files so_far left)
 
 -- The graph and the key file of these names were read and are accepted: the rows stand for triples that are no more than the
 -- limit, and the key file was left as it is to be left.
@@ -154,6 +176,26 @@ pub record ReadBothAs {K : Type 0} (shelf : Shelf.Ghosts K) (shelf_before shelf_
 abbrev pub ReadBoth : {K : Type 0} (shelf : Shelf.Ghosts K) (shelf_before shelf_now : K) → Limits → (graph keys : List ℕ) → Rows → List KeyShape → Type 0
 ReadBoth shelf shelf_before shelf_now limits graph keys rows key_list =
     (triples : List Triple) × ReadBothAs shelf shelf_before shelf_now limits graph keys rows key_list triples
+
+-- the graph of this name was read behind rows that are there, and goes on with them
+abbrev pub ReadMore : {K : Type 0} (shelf : Shelf.Ghosts K) (shelf_before shelf_now : K) → Limits → (name : List ℕ) → Rows → MoreRows → Type 0
+ReadMore shelf shelf_before shelf_now limits name rows grown =
+    (shelf.faults shelf_now ≡ shelf.faults shelf_before) × ((added : List Triple) × AreMoreRowsOf shelf shelf_before limits name rows grown added)
+
+-- Two graphs and the key file of these names were read and are accepted: the rows stand for the triples of both, the second
+-- was read within what the first leaves of the limits, and the key file was left as it is to be left.
+pub record ReadThreeAs {K : Type 0} (shelf : Shelf.Ghosts K) (shelf_before shelf_now : K) (limits : Limits) (graph more keys : List ℕ) (rows : Rows) (key_list : List KeyShape) (triples added : List Triple) : Type 0 where
+  pub stand : StandFor rows (triples ++ added)
+  pub count : shelf.faults shelf_now ≡ shelf.faults shelf_before
+  pub in_graph : IfSome (shelf.held shelf_before) (λ files. GraphSays limits (bytes_of files graph) (Ok triples))
+  pub in_more : IfSome (shelf.held shelf_before) (λ files. GraphSays (left_by limits triples) (bytes_of files more) (Ok added))
+  pub in_keys : IfSome (shelf.held shelf_before) (λ files. KeyFileSays limits (bytes_of files keys) (Ok key_list))
+  pub left : KeysLeft shelf shelf_before shelf_now limits keys
+
+-- the same of some triples
+abbrev pub ReadThree : {K : Type 0} (shelf : Shelf.Ghosts K) (shelf_before shelf_now : K) → Limits → (graph more keys : List ℕ) → Rows → List KeyShape → Type 0
+ReadThree shelf shelf_before shelf_now limits graph more keys rows key_list =
+    (triples : List Triple) × (added : List Triple) × ReadThreeAs shelf shelf_before shelf_now limits graph more keys rows key_list triples added
 
 -- ---- what is written at the end
 

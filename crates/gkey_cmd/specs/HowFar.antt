@@ -1,12 +1,14 @@
 -- How far the files of a run are read: this project's own words.
-use Rattle.std.specs.Prelude.{List, ℕ, ◌≡◌, ◌≤◌, ◌+◌, ◌++◌, length, Option, Some, None, IfSome, IsSomeAnd}
+use Rattle.std.specs.Prelude.{List, ℕ, ◌≡◌, ◌≤◌, ◌+◌, ◌++◌, length, Option, Some, None, Ok, IfSome, IsSomeAnd}
 use Rattle.gk_base.specs.declared.limits.Limits.{Limits}
+use Rattle.gk_base.specs.declared.term.Triple.{Triple}
 use Rattle.gk_io.specs.Files.{bytes_of}
 use Rattle.gk_io.specs.declared.shelf.Shelf
 use Rattle.graph_rows.specs.GraphFile.{GraphStops}
-use Rattle.gkey_cmd.specs.Commands.{Wanted, Matching, Proving, Checking, Converting, Demonstrating, Merging, Explaining}
+use Rattle.gkey_cmd.specs.Commands.{Wanted, Matching, Proving, Checking, Converting, Demonstrating, Merging, Explaining, Growing}
+use Rattle.gkey_cmd.specs.Reading.{GraphSays, left_by}
 use Rattle.gkey_cmd.specs.declared.ending.Refusal.{Refusal}
-use Rattle.gkey_cmd.specs.declared.ending.Refusal.TheVariants.{InGraph, InKeys, InProof, NoSuchEntity, MorePairsThan}
+use Rattle.gkey_cmd.specs.declared.ending.Refusal.TheVariants.{InGraph, InMore, InKeys, InProof, NoSuchEntity, MorePairsThan}
 
 -- of a file of these bytes this rest is unread, and no more is gone than the limit and one byte
 pub record IsReadWithin (limit : ℕ) (bytes rest : List ℕ) : Type 0 where
@@ -37,15 +39,23 @@ LeavesFiles shelf shelf_before shelf_after (Converting proof) limits = ProofLeft
 LeavesFiles shelf shelf_before shelf_after (Demonstrating n) limits = shelf_after ≡ shelf_before
 LeavesFiles shelf shelf_before shelf_after (Merging graph keys) limits = KeysLeft shelf shelf_before shelf_after limits keys
 LeavesFiles shelf shelf_before shelf_after (Explaining graph keys first second) limits = KeysLeft shelf shelf_before shelf_after limits keys
+LeavesFiles shelf shelf_before shelf_after (Growing graph more keys) limits = KeysLeft shelf shelf_before shelf_after limits keys
 
 -- how far the files of a chase are read that is refused: a refused graph is left soon, and the key file is left where it, or
 -- what comes after it, is refused
 abbrev pub ChaseStops : {K : Type 0} (shelf : Shelf.Ghosts K) (shelf_before shelf_after : K) (graph keys : List ℕ) → Limits → Refusal → Type 0
 ChaseStops shelf shelf_before shelf_after graph keys limits (InGraph refusal) = GraphStops shelf shelf_before shelf_after limits graph
+ChaseStops shelf shelf_before shelf_after graph keys limits (InMore refusal) = ⊥
 ChaseStops shelf shelf_before shelf_after graph keys limits (InKeys refusal) = KeysLeft shelf shelf_before shelf_after limits keys
 ChaseStops shelf shelf_before shelf_after graph keys limits (InProof refusal) = ⊥
 ChaseStops shelf shelf_before shelf_after graph keys limits (NoSuchEntity asked) = KeysLeft shelf shelf_before shelf_after limits keys
 ChaseStops shelf shelf_before shelf_after graph keys limits (MorePairsThan limit) = KeysLeft shelf shelf_before shelf_after limits keys
+
+-- a graph that is added to an accepted one, and is refused under what that leaves of the limits, is left soon
+abbrev pub MoreStops : {K : Type 0} (shelf : Shelf.Ghosts K) (shelf_before shelf_after : K) (graph more : List ℕ) → Limits → Type 0
+MoreStops shelf shelf_before shelf_after graph more limits = (triples : List Triple)
+    × IfSome (shelf.held shelf_before) (λ files. GraphSays limits (bytes_of files graph) (Ok triples))
+    × GraphStops shelf shelf_before shelf_after (left_by limits triples) more
 
 -- how far the files of a run are read that is refused: a refused graph is left soon, and a key file or a proof file is left
 -- where it, or what comes after it, is refused; a demo leaves the shelf as it was
@@ -54,11 +64,13 @@ StopsReading shelf shelf_before shelf_after None limits refusal = ⊥
 StopsReading shelf shelf_before shelf_after (Some (Matching graph keys)) limits refusal = ChaseStops shelf shelf_before shelf_after graph keys limits refusal
 StopsReading shelf shelf_before shelf_after (Some (Proving graph keys)) limits refusal = ChaseStops shelf shelf_before shelf_after graph keys limits refusal
 StopsReading shelf shelf_before shelf_after (Some (Checking graph keys proof)) limits (InGraph refusal) = GraphStops shelf shelf_before shelf_after limits graph
+StopsReading shelf shelf_before shelf_after (Some (Checking graph keys proof)) limits (InMore refusal) = ⊥
 StopsReading shelf shelf_before shelf_after (Some (Checking graph keys proof)) limits (InKeys refusal) = KeysLeft shelf shelf_before shelf_after limits keys
 StopsReading shelf shelf_before shelf_after (Some (Checking graph keys proof)) limits (InProof refusal) = ProofLeft shelf shelf_before shelf_after limits proof
 StopsReading shelf shelf_before shelf_after (Some (Checking graph keys proof)) limits (NoSuchEntity asked) = ⊥
 StopsReading shelf shelf_before shelf_after (Some (Checking graph keys proof)) limits (MorePairsThan limit) = ⊥
 StopsReading shelf shelf_before shelf_after (Some (Converting proof)) limits (InGraph refusal) = ⊥
+StopsReading shelf shelf_before shelf_after (Some (Converting proof)) limits (InMore refusal) = ⊥
 StopsReading shelf shelf_before shelf_after (Some (Converting proof)) limits (InKeys refusal) = ⊥
 StopsReading shelf shelf_before shelf_after (Some (Converting proof)) limits (InProof refusal) = ProofLeft shelf shelf_before shelf_after limits proof
 StopsReading shelf shelf_before shelf_after (Some (Converting proof)) limits (NoSuchEntity asked) = ⊥
@@ -66,3 +78,9 @@ StopsReading shelf shelf_before shelf_after (Some (Converting proof)) limits (Mo
 StopsReading shelf shelf_before shelf_after (Some (Demonstrating n)) limits refusal = shelf_after ≡ shelf_before
 StopsReading shelf shelf_before shelf_after (Some (Merging graph keys)) limits refusal = ChaseStops shelf shelf_before shelf_after graph keys limits refusal
 StopsReading shelf shelf_before shelf_after (Some (Explaining graph keys first second)) limits refusal = ChaseStops shelf shelf_before shelf_after graph keys limits refusal
+StopsReading shelf shelf_before shelf_after (Some (Growing graph more keys)) limits (InGraph refusal) = GraphStops shelf shelf_before shelf_after limits graph
+StopsReading shelf shelf_before shelf_after (Some (Growing graph more keys)) limits (InMore refusal) = MoreStops shelf shelf_before shelf_after graph more limits
+StopsReading shelf shelf_before shelf_after (Some (Growing graph more keys)) limits (InKeys refusal) = KeysLeft shelf shelf_before shelf_after limits keys
+StopsReading shelf shelf_before shelf_after (Some (Growing graph more keys)) limits (InProof refusal) = ⊥
+StopsReading shelf shelf_before shelf_after (Some (Growing graph more keys)) limits (NoSuchEntity asked) = ⊥
+StopsReading shelf shelf_before shelf_after (Some (Growing graph more keys)) limits (MorePairsThan limit) = KeysLeft shelf shelf_before shelf_after limits keys

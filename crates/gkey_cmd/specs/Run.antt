@@ -36,8 +36,9 @@ pub record IsRun {S O E : Type 0} (shelf : Shelf.Ghosts S) (out : Sink.Ghosts O)
   pub done : IsAnswer status → (err_after ≡ err_before) × ((answer : Answer) × (output : List ℕ)
       × (status ≡ status_of answer) × TookAll out out_before out_after output
       × IfSome (files_for command (shelf.held shelf_before)) (λ files. IsAnswered command files limits answer output))
-  -- 2: the text names the refusal, and it is so of the files where they are told. Where it is one of the graph, the graph
-  -- was asked for last, and of its bytes fewer than 65,536 are read beyond the one at which it is refused; else the key
+  -- 2: the text names the refusal, and it is so of the files where they are told. Where it is one of the graph, or of the
+  -- graph that is added to it, `more`, that graph was asked for last, and of its bytes fewer than 65,536 are read beyond the one
+  -- at which it is refused, under the limits that are left to it; else the key
   -- file or the proof file that is refused was asked for last, or the key file where a word names no entity or there are too many
   -- pairs, and no more than one byte is read beyond its limit. A demo asks the shelf for nothing.
   pub stops_reading : status ≡ 2 → (refusal : Refusal) × Sent err err_before err_after (refused_text refusal)

@@ -5,15 +5,15 @@ use Rattle.gk_base.specs.Faults.{read_text}
 use Rattle.key_lang.specs.Faults.{key_fault_text}
 use Rattle.proof_graph.specs.Faults.{proof_fault_text}
 use Rattle.gkey_cmd.specs.declared.file.File.{File}
-use Rattle.gkey_cmd.specs.declared.file.File.TheVariants.{Graph, Keys, Proof}
+use Rattle.gkey_cmd.specs.declared.file.File.TheVariants.{Graph, More, Keys, Proof}
 use Rattle.gkey_cmd.specs.declared.ending.Asked.{Asked}
 use Rattle.gkey_cmd.specs.declared.ending.Asked.TheVariants.{First, Second}
 use Rattle.gkey_cmd.specs.declared.ending.Refusal.{Refusal}
-use Rattle.gkey_cmd.specs.declared.ending.Refusal.TheVariants.{InGraph, InKeys, InProof, NoSuchEntity, MorePairsThan}
+use Rattle.gkey_cmd.specs.declared.ending.Refusal.TheVariants.{InGraph, InMore, InKeys, InProof, NoSuchEntity, MorePairsThan}
 
 -- the usage text
 abbrev pub usage : List ℕ
-usage = codes "usage:\n  gkey match [--workers N] GRAPH KEYS\n  gkey prove [--workers N] GRAPH KEYS\n  gkey check GRAPH KEYS PROOF\n  gkey convert PROOF\n  gkey demo N\n  gkey merge [--workers N] GRAPH KEYS\n  gkey why [--workers N] GRAPH KEYS A B\n"
+usage = codes "usage:\n  gkey match [--workers N] GRAPH KEYS\n  gkey prove [--workers N] GRAPH KEYS\n  gkey check GRAPH KEYS PROOF\n  gkey convert PROOF\n  gkey demo N\n  gkey merge [--workers N] GRAPH KEYS\n  gkey why [--workers N] GRAPH KEYS A B\n  gkey grow [--workers N] GRAPH MORE KEYS\n"
 
 -- the texts of want of memory and of a failed write
 abbrev pub out_of_memory : List ℕ
@@ -25,6 +25,7 @@ write_failed = codes "output: write failed\n"
 -- what a text calls a file
 abbrev pub file_text : File → List ℕ
 file_text Graph = codes "graph"
+file_text More = codes "more"
 file_text Keys = codes "keys"
 file_text Proof = codes "proof"
 
@@ -48,6 +49,7 @@ no_entity_text Second = codes "second: no such entity\n"
 -- the text of a refusal
 abbrev pub refused_text : Refusal → List ℕ
 refused_text (InGraph refusal) = line_text Graph refusal.line (read_text refusal.fault)
+refused_text (InMore refusal) = line_text More refusal.line (read_text refusal.fault)
 refused_text (InKeys refusal) = line_text Keys refusal.line (key_fault_text refusal.fault)
 refused_text (InProof refusal) = line_text Proof refusal.line (proof_fault_text refusal.fault)
 refused_text (NoSuchEntity asked) = no_entity_text asked

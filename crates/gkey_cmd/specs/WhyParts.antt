@@ -14,7 +14,7 @@ use Rattle.proof_graph.specs.ProofText.{ProofSays}
 use Rattle.proof_graph.specs.CanonicalProof.{proof_text}
 use Rattle.why_pair.specs.Why.{StepsLead, NoneTwice, NoneTwiceInSupports, AllReached}
 use Rattle.gkey_cmd.specs.declared.ending.Asked.TheVariants.{First, Second}
-use Rattle.gkey_cmd.specs.declared.ending.Refusal.TheVariants.{InGraph, InKeys, InProof, NoSuchEntity, MorePairsThan}
+use Rattle.gkey_cmd.specs.declared.ending.Refusal.TheVariants.{InGraph, InMore, InKeys, InProof, NoSuchEntity, MorePairsThan}
 use Rattle.gkey_cmd.specs.declared.ending.Ending.{Ending}
 use Rattle.gkey_cmd.specs.declared.ending.Ending.TheVariants.{NoCommand, Failed, Refused, NoMemory, Done}
 
@@ -33,6 +33,7 @@ SpellsNoNumber G names word = (n : ℕ) → ¬ (SpellsNumber G names word n)
 abbrev pub SpellTwo : NumberedGraph → List Term → (first second : List ℕ) → Result (ℕ × ℕ) Ending → Type 0
 SpellTwo G names first second (Ok r) = SpellsNumber G names first r.0 × SpellsNumber G names second r.1
 SpellTwo G names first second (Err (Refused (InGraph refusal))) = ⊥
+SpellTwo G names first second (Err (Refused (InMore refusal))) = ⊥
 SpellTwo G names first second (Err (Refused (InKeys refusal))) = ⊥
 SpellTwo G names first second (Err (Refused (InProof refusal))) = ⊥
 SpellTwo G names first second (Err (Refused (NoSuchEntity First))) = SpellsNoNumber G names first

@@ -1,13 +1,13 @@
 -- What a run writes: the relation of its words, its files and its limits to its status, its output and its error text. The
 -- files are those that its command goes by.
-use Rattle.std.specs.Prelude.{List, [], ℕ, ◌≡◌, ◌⊎◌, ◌≤◌, ◌^◌, ⊤, Option, Some, None, Ok}
+use Rattle.std.specs.Prelude.{List, [], ◌++◌, ℕ, ◌≡◌, ◌⊎◌, ◌≤◌, ◌^◌, ⊤, Option, Some, None, Ok}
 use Rattle.gk_base.specs.declared.limits.Limits.{Limits}
 use Rattle.gk_base.specs.declared.term.Triple.{Triple}
 use Rattle.gk_io.specs.Files.{bytes_of}
 use Rattle.key_file.specs.KeyShape.{KeyShape}
-use Rattle.gkey_cmd.specs.Commands.{Wanted, Matching, Proving, Checking, Converting, Demonstrating, Merging, Explaining, demo_graph_name, demo_keys_name, files_of}
+use Rattle.gkey_cmd.specs.Commands.{Wanted, Matching, Proving, Checking, Converting, Demonstrating, Merging, Explaining, Growing, demo_graph_name, demo_keys_name, files_of}
 use Rattle.gkey_cmd.specs.Texts.{usage, refused_text}
-use Rattle.gkey_cmd.specs.Reading.{NamedFiles, GraphSays, KeyFileSays, ProofFileSays, AllAccepted, FirstRefused}
+use Rattle.gkey_cmd.specs.Reading.{NamedFiles, GraphSays, KeyFileSays, ProofFileSays, left_by, AllAccepted, FirstRefused}
 use Rattle.proof_graph.specs.Steps.{StepShape}
 use Rattle.proof_graph.specs.CanonicalProof.{proof_text}
 use Rattle.proof_check.specs.Verdict.{verdict}
@@ -23,7 +23,7 @@ use Rattle.gkey_cmd.specs.declared.ending.Answer.TheVariants.{Given, NotAccepted
 use Rattle.gkey_cmd.specs.declared.ending.Asked.{Asked}
 use Rattle.gkey_cmd.specs.declared.ending.Asked.TheVariants.{First, Second}
 use Rattle.gkey_cmd.specs.declared.ending.Refusal.{Refusal}
-use Rattle.gkey_cmd.specs.declared.ending.Refusal.TheVariants.{InGraph, InKeys, InProof, NoSuchEntity, MorePairsThan}
+use Rattle.gkey_cmd.specs.declared.ending.Refusal.TheVariants.{InGraph, InMore, InKeys, InProof, NoSuchEntity, MorePairsThan}
 
 -- the status of an answer
 abbrev pub status_of : Answer → ℕ
@@ -48,6 +48,14 @@ ChaseHasMorePairs limits files graph keys =
     (triples : List Triple) × (key_list : List KeyShape) × GraphSays limits (bytes_of files graph) (Ok triples)
     × KeyFileSays limits (bytes_of files keys) (Ok key_list) × HasTooManyPairs triples key_list limits.pairs
 
+-- an accepted graph, one that is added to it and is accepted under what it leaves of the limits, and accepted keys lead to more
+-- candidate pairs than the limit, over the triples of both
+abbrev pub GrowthHasMorePairs : Limits → NamedFiles → (graph more keys : List ℕ) → Type 0
+GrowthHasMorePairs limits files graph more keys =
+    (triples : List Triple) × (added : List Triple) × (key_list : List KeyShape) × GraphSays limits (bytes_of files graph) (Ok triples)
+    × GraphSays (left_by limits triples) (bytes_of files more) (Ok added) × KeyFileSays limits (bytes_of files keys) (Ok key_list)
+    × HasTooManyPairs (triples ++ added) key_list limits.pairs
+
 -- the accepted files of a command lead to more candidate pairs than the limit; only a chase has pairs
 abbrev pub HasMorePairs : Limits → NamedFiles → Wanted → Type 0
 HasMorePairs limits files (Matching graph keys) = ChaseHasMorePairs limits files graph keys
@@ -57,6 +65,7 @@ HasMorePairs limits files (Converting proof) = ⊥
 HasMorePairs limits files (Demonstrating n) = ChaseHasMorePairs limits files demo_graph_name demo_keys_name
 HasMorePairs limits files (Merging graph keys) = ChaseHasMorePairs limits files graph keys
 HasMorePairs limits files (Explaining graph keys first second) = ChaseHasMorePairs limits files graph keys
+HasMorePairs limits files (Growing graph more keys) = GrowthHasMorePairs limits files graph more keys
 
 -- of the words for entities that a command has, this is the first that names none of its accepted graph
 abbrev pub LacksEntity : Limits → NamedFiles → Wanted → Asked → Type 0
@@ -70,6 +79,7 @@ LacksEntity limits files (Explaining graph keys first second) First =
     (triples : List Triple) × GraphSays limits (bytes_of files graph) (Ok triples) × ¬ (NamesOne triples first)
 LacksEntity limits files (Explaining graph keys first second) Second =
     (triples : List Triple) × GraphSays limits (bytes_of files graph) (Ok triples) × NamesOne triples first × ¬ (NamesOne triples second)
+LacksEntity limits files (Growing graph more keys) asked = ⊥
 
 -- each word for an entity that a command has names one of its accepted graph
 abbrev pub HasEntities : Limits → NamedFiles → Wanted → Type 0
@@ -81,6 +91,7 @@ HasEntities limits files (Demonstrating n) = ⊤
 HasEntities limits files (Merging graph keys) = ⊤
 HasEntities limits files (Explaining graph keys first second) =
     (triples : List Triple) × GraphSays limits (bytes_of files graph) (Ok triples) × NamesOne triples first × NamesOne triples second
+HasEntities limits files (Growing graph more keys) = ⊤
 
 -- the answer of a command whose files are accepted and lead to no more pairs than the limit, and its output
 abbrev pub Answers : Limits → NamedFiles → Wanted → Answer → List ℕ → Type 0
@@ -119,11 +130,18 @@ Answers limits files (Explaining graph keys first second) NotAccepted output = �
 Answers limits files (Explaining graph keys first second) NotTheSame output =
     (triples : List Triple) × (key_list : List KeyShape) × GraphSays limits (bytes_of files graph) (Ok triples)
     × KeyFileSays limits (bytes_of files keys) (Ok key_list) × SpellApart triples key_list first second × (output ≡ not_the_same)
+Answers limits files (Growing graph more keys) Given output =
+    (triples : List Triple) × (added : List Triple) × (key_list : List KeyShape) × GraphSays limits (bytes_of files graph) (Ok triples)
+    × GraphSays (left_by limits triples) (bytes_of files more) (Ok added) × KeyFileSays limits (bytes_of files keys) (Ok key_list)
+    × IsReport (triples ++ added) key_list output
+Answers limits files (Growing graph more keys) NotAccepted output = ⊥
+Answers limits files (Growing graph more keys) NotTheSame output = ⊥
 
 -- A command whose files are all accepted is refused so: by the first of its words for entities that names none, or, where each
 -- names one, by too many pairs.
 abbrev pub IsRefusedAfter : Limits → NamedFiles → Wanted → Refusal → Type 0
 IsRefusedAfter limits files command (InGraph refusal) = ⊥
+IsRefusedAfter limits files command (InMore refusal) = ⊥
 IsRefusedAfter limits files command (InKeys refusal) = ⊥
 IsRefusedAfter limits files command (InProof refusal) = ⊥
 IsRefusedAfter limits files command (NoSuchEntity asked) = LacksEntity limits files command asked

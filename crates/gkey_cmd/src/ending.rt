@@ -3,7 +3,7 @@
 ghost use Rattle.std.specs.Prelude.{◌≡◌, MatchResult};
 ghost use Rattle.gkey_cmd.specs.Written.{status_of};
 ghost use Rattle.gkey_cmd.specs.Sent.{TookAll, TookLess, Sent};
-ghost use Rattle.gkey_cmd.specs.Endings.{graph_ending, keys_ending, proof_ending, IsTold};
+ghost use Rattle.gkey_cmd.specs.Endings.{graph_ending, more_ending, keys_ending, proof_ending, IsTold};
 
 use crate::file::File;
 use crate::texts::{
@@ -54,6 +54,8 @@ pub enum Asked {
 pub enum Refusal {
     /// The graph, at this line.
     InGraph(ReadRefusal),
+    /// The graph that is added to the first, at this line.
+    InMore(ReadRefusal),
     /// The key file, at this line.
     InKeys(KeyRefusal),
     /// The proof file, at this line.
@@ -100,6 +102,17 @@ impl From<FileStop<ReadRefusal>> for Ending {
             Stop::Fault(FileFault::Failed) => Ending::Failed(File::Graph),
             Stop::Fault(FileFault::Refused(refusal)) => Ending::Refused(Refusal::InGraph(refusal)),
         }
+    }
+}
+
+/// The ending of a run whose added graph is not to be had.
+pub(crate) fn more_ending(stop: FileStop<ReadRefusal>) -> Ending
+    ensures { result ≡ more_ending stop }
+{
+    match stop {
+        Stop::NoMemory => Ending::NoMemory,
+        Stop::Fault(FileFault::Failed) => Ending::Failed(File::More),
+        Stop::Fault(FileFault::Refused(refusal)) => Ending::Refused(Refusal::InMore(refusal)),
     }
 }
 

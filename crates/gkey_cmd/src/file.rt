@@ -5,6 +5,8 @@
 pub enum File {
     /// The graph.
     Graph,
+    /// The graph that is added to the first.
+    More,
     /// The key file.
     Keys,
     /// The proof file.

@@ -5,7 +5,7 @@
 //! - `words`: the commands and the words that ask for them
 //! - `file`: the files that a command reads
 //! - `order`: the order in which they are read, and what comes after the last
-//! - `matched`, `proved`, `checked`, `converted`, `counted`, `merged`, `explained`: what each command prints
+//! - `matched`, `proved`, `checked`, `converted`, `counted`, `merged`, `explained`, `grown`: what each command prints
 //! - `entities`: which entity of the graph a word names
 //! - `ending`: how a run ends, and what it leaves
 //! - `texts`: each status with its meaning and the text for the error stream
@@ -19,6 +19,7 @@ mod ending;
 mod entities;
 mod explained;
 mod file;
+mod grown;
 mod matched;
 mod merged;
 mod order;

@@ -1,28 +1,30 @@
 //! The order in which the files of a command are read, up to the first that fails or is refused, and what comes after the last.
 
-ghost use Rattle.std.specs.Prelude.{◌≡◌, ◌<◌, ◌≤◌, ◌^◌, Ok, length, IfOk, IfErr, OnOk, IfSome, MatchResult};
+ghost use Rattle.std.specs.Prelude.{◌≡◌, ◌<◌, ◌≤◌, ◌^◌, List, Ok, length, IfOk, IfErr, OnOk, IfSome, MatchResult};
+ghost use Rattle.gk_base.specs.declared.term.Triple.{Triple as AnyTriple};
 ghost use Rattle.gk_io.specs.Files.{bytes_of};
-ghost use Rattle.gkey_cmd.specs.Commands.{Matching, Proving, Checking, Converting, Merging, Explaining};
-ghost use Rattle.gkey_cmd.specs.Reading.{KeyFileSays, ProofFileSays};
+ghost use Rattle.gkey_cmd.specs.Commands.{Matching, Proving, Checking, Converting, Merging, Explaining, Growing};
+ghost use Rattle.gkey_cmd.specs.Reading.{KeyFileSays, ProofFileSays, left_by};
 ghost use Rattle.gkey_cmd.specs.Written.{AreAtMostStandard};
 ghost use Rattle.gkey_cmd.specs.HowFar.{KeysLeft, ProofLeft};
-ghost use Rattle.graph_rows.specs.Rows.{AreFew};
+ghost use Rattle.graph_rows.specs.Rows.{StandFor, AreFew, LeaveRoom};
 ghost use Rattle.gkey_cmd.specs.Demo.{demo_files};
-ghost use Rattle.gkey_cmd.specs.Endings.{EndsAt, Stopped, DemoStops, IsBeforeChase, ReadBoth};
+ghost use Rattle.gkey_cmd.specs.Endings.{EndsAt, Stopped, DemoStops, IsBeforeChase, ReadBoth, ReadMore, ReadThree};
 
 use crate::checked::check_files;
 use crate::converted::convert_file;
 use crate::counted::count_files;
-use crate::ending::{Answer, Ending};
+use crate::ending::{Answer, Ending, more_ending};
 use crate::explained::explain_files;
 use crate::file::File;
+use crate::grown::grow_files;
 use crate::matched::match_files;
 use crate::merged::merge_files;
 use crate::proved::prove_files;
 use demo_graph::demo_texts;
 use gk_base::{Limits, NoMemory, Stop, Text};
 use gk_io::{Failed, Shelf, SureShelf};
-use graph_rows::{Rows, load, read_rows};
+use graph_rows::{MoreRows, Rows, load, read_more_rows, read_rows};
 use key_lang::KeyFile;
 use proof_graph::Proof;
 use std::alloc::Global;
@@ -99,6 +101,64 @@ fn read_graph_and_keys<S: Shelf>(
     let rows = read_rows(alloc, shelf, graph, limits)?;
     let read = read_keys(alloc, shelf, keys, limits)?;
     Ok((rows, read))
+}
+
+/// What the triples of these rows leave of the limits.
+fn left_by(limits: &Limits, rows: &Rows) -> Limits
+    requires { (triples : List AnyTriple) × StandFor rows.now triples × (length triples ≤ limits.now.triples) }
+    ensures { (triples : List AnyTriple) → StandFor rows.now triples → result ≡ left_by limits.now triples }
+{
+    let count = rows.rows.as_slice().len() as u64;
+    Limits {
+        bytes: limits.bytes,
+        key_bytes: limits.key_bytes,
+        triples: limits.triples - count,
+        pairs: limits.pairs,
+    }
+}
+
+/// The rows of a graph behind those that are there, under these limits, or the ending of a run that can't have them.
+fn read_more<S: Shelf>(
+    alloc: Global,
+    shelf: &mut S,
+    name: &Text,
+    limits: &Limits,
+    rows: Rows,
+) -> Result<MoreRows, Ending>
+    requires limits { AreAtMostStandard limits.now }
+    requires room { LeaveRoom rows limits.now.triples }
+    ensures held { S.held shelf.new ≡ S.held shelf.old }
+    ensures goes_on { IfOk result (ReadMore S.Shelf shelf.old shelf.new limits.now name.now rows) }
+    ensures ends { IfErr result (EndsAt S.Shelf shelf.old shelf.new limits.now File.More name.now) }
+{
+    match read_more_rows(alloc, shelf, name, limits, rows) {
+        Ok(grown) => Ok(grown),
+        Err(stop) => Err(more_ending(stop)),
+    }
+}
+
+/// The rows of two graphs, those of the second behind those of the first, and the keys, or the ending of a run that can't have
+/// them: the graph comes first, then the one that is added to it, under what the first leaves of the limits, then the key
+/// file.
+fn read_graphs_and_keys<S: Shelf>(
+    alloc: Global,
+    shelf: &mut S,
+    graph: &Text,
+    more: &Text,
+    keys: &Text,
+    limits: &Limits,
+) -> Result<(MoreRows, KeyFile), Ending>
+    requires { AreAtMostStandard limits.now }
+    ensures read { IfOk result (λ r. ReadThree S.Shelf shelf.old shelf.new limits.now graph.now more.now keys.now r.0.rows r.1) }
+    ensures few { IfOk result (λ r. AreFew r.0.rows) }
+    ensures first { IfOk result (λ r. r.0.first ≤ length r.0.rows.rows.items) }
+    ensures ends { IfErr result (Stopped S.Shelf shelf.old shelf.new (Growing graph.now more.now keys.now) limits.now) }
+{
+    let first = read_rows(alloc, shelf, graph, limits)?;
+    let left = left_by(limits, &first);
+    let both = read_more(alloc, shelf, more, &left, first)?;
+    let key_list = read_keys(alloc, shelf, keys, limits)?;
+    Ok((both, key_list))
 }
 
 /// The report of `match`, or the ending of a run that has none: the files are read, and then the chase runs, with so many
@@ -189,6 +249,37 @@ pub(crate) fn explained<Rt: Threads + Wait + Sync, S: Shelf, G: Gate>(
         &read,
         first,
         second,
+        limits.pairs,
+        workers,
+        gate,
+    )
+}
+
+/// The report of `grow`, or the ending of a run that has none: the files are read, and then the first graph is chased, and the
+/// two together from there on, with so many workers that pass the gate before each search.
+pub(crate) fn grown<Rt: Threads + Wait + Sync, S: Shelf, G: Gate>(
+    rt: &Rt,
+    alloc: Global,
+    shelf: &mut S,
+    graph: &Text,
+    more: &Text,
+    keys: &Text,
+    limits: &Limits,
+    workers: u32,
+    gate: &G,
+) -> Result<Vec<u8>, Ending>
+    requires limits { AreAtMostStandard limits.now }
+    requires workers { (0 < workers) × (workers ≤ 64) }
+    ensures { let Stops = Stopped S.Shelf shelf.old shelf.new (Growing graph.now more.now keys.now) limits.now in
+        MatchResult result (λ text. Stops (Ending.Done Answer.Given text)) Stops }
+{
+    let (both, read) = read_graphs_and_keys(alloc, shelf, graph, more, keys, limits)?;
+    grow_files(
+        rt,
+        alloc,
+        both.rows,
+        both.first,
+        &read,
         limits.pairs,
         workers,
         gate,

@@ -43,7 +43,7 @@ pub(crate) const NO_COMMAND: u8 = 64;
 
 /// The text of `NO_COMMAND`.
 pub(crate) const USAGE: &[u8] =
-    b"usage:\n  gkey match [--workers N] GRAPH KEYS\n  gkey prove [--workers N] GRAPH KEYS\n  gkey check GRAPH KEYS PROOF\n  gkey convert PROOF\n  gkey demo N\n  gkey merge [--workers N] GRAPH KEYS\n  gkey why [--workers N] GRAPH KEYS A B\n";
+    b"usage:\n  gkey match [--workers N] GRAPH KEYS\n  gkey prove [--workers N] GRAPH KEYS\n  gkey check GRAPH KEYS PROOF\n  gkey convert PROOF\n  gkey demo N\n  gkey merge [--workers N] GRAPH KEYS\n  gkey why [--workers N] GRAPH KEYS A B\n  gkey grow [--workers N] GRAPH MORE KEYS\n";
 
 /// What a text calls a file.
 fn file_text(file: File) -> &'static [u8]
@@ -51,6 +51,7 @@ fn file_text(file: File) -> &'static [u8]
 {
     match file {
         File::Graph => b"graph",
+        File::More => b"more",
         File::Keys => b"keys",
         File::Proof => b"proof",
     }
@@ -62,6 +63,7 @@ pub(crate) fn read_failed(file: File) -> &'static [u8]
 {
     match file {
         File::Graph => b"graph: read failed\n",
+        File::More => b"more: read failed\n",
         File::Keys => b"keys: read failed\n",
         File::Proof => b"proof: read failed\n",
     }
@@ -106,6 +108,7 @@ pub(crate) fn refused_text(alloc: Global, refusal: Refusal) -> Result<Vec<u8>, N
 {
     match refusal {
         Refusal::InGraph(at) => line_text(alloc, File::Graph, at.line, at.fault.text()),
+        Refusal::InMore(at) => line_text(alloc, File::More, at.line, at.fault.text()),
         Refusal::InKeys(at) => line_text(alloc, File::Keys, at.line, at.fault.text()),
         Refusal::InProof(at) => line_text(alloc, File::Proof, at.line, at.fault.text()),
         Refusal::NoSuchEntity(asked) => Ok(no_entity_text(asked).to_vec(alloc)?),

@@ -7,7 +7,7 @@ ghost use Rattle.gkey_cmd.specs.Endings.{Caused, LeavesShelf};
 ghost use Rattle.gkey_cmd.specs.Run.{IsRun};
 
 use crate::ending::{Answer, Ending, finish};
-use crate::order::{checked, converted, demonstrated, explained, matched, merged, proved};
+use crate::order::{checked, converted, demonstrated, explained, grown, matched, merged, proved};
 use crate::words::{Command, WORKERS, read_words};
 use gk_base::{Limits, Text};
 use gk_io::{Shelf, Sink};
@@ -88,6 +88,14 @@ fn decide<Rt: Threads + Wait + Sync, S: Shelf, G: Gate>(
         ) => answered(explained(
             rt, alloc, shelf, graph, keys, first, second, limits, workers, gate,
         )),
+        Some(
+            Command::Grow {
+                workers,
+                graph,
+                more,
+                keys,
+            },
+        ) => given(grown(rt, alloc, shelf, graph, more, keys, limits, workers, gate)),
     }
 }
 

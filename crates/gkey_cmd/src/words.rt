@@ -1,6 +1,6 @@
 //! The commands of the program, and the words that ask for them.
 
-ghost use Rattle.std.specs.Prelude.{◌≡◌, ◌≤◌, ◌<◌, None, IfSome, MatchOption};
+ghost use Rattle.std.specs.Prelude.{[], ◌∷◌, ◌≡◌, ◌≤◌, ◌<◌, None, IfSome, MatchOption};
 ghost use Rattle.gkey_cmd.specs.Commands.{wanted, chase_of, number_to, IsCommand, IsChaseOf};
 
 use demo_graph::number_of;
@@ -65,6 +65,15 @@ pub enum Command<'w> {
         /// The word for the other.
         second: &'w Text,
     },
+    /// Print the classes of equal entities of two graphs together. What is identified over the first is not searched again.
+    Grow {
+        /// How many workers search: 1 to 64.
+        workers: u32,
+        graph: &'w Text,
+        /// The graph that is added to the first.
+        more: &'w Text,
+        keys: &'w Text,
+    },
 }
 
 /// The number from 1 to `most`, if the word is one in decimal, without sign and without leading zero.
@@ -109,6 +118,34 @@ fn chase_command<'w>(
     }
 }
 
+/// The command with this name that has these three files and no other words, if there is one.
+fn three_files<'w>(
+    name: &Text,
+    first: &'w Text,
+    second: &'w Text,
+    third: &'w Text,
+) -> Option<Command<'w>>
+    ensures { let words = name.now ∷ first.now ∷ second.now ∷ third.now ∷ [] in
+        MatchOption result (wanted words ≡ None) (IsCommand words) }
+{
+    if name.bytes() == b"check".as_slice() {
+        Some(Command::Check {
+            graph: first,
+            keys: second,
+            proof: third,
+        })
+    } else if name.bytes() == b"grow".as_slice() {
+        Some(Command::Grow {
+            workers: WORKERS,
+            graph: first,
+            more: second,
+            keys: third,
+        })
+    } else {
+        None
+    }
+}
+
 /// The command that the words after the program's name ask for. None comes exactly where they ask for none. It takes
 /// no memory.
 pub fn read_words<'w>(words: &'w [Text]) -> Option<Command<'w>>
@@ -140,9 +177,17 @@ pub fn read_words<'w>(words: &'w [Text]) -> Option<Command<'w>>
                     second,
                 })
             }
-        [command, graph, keys, proof] if command.bytes() == b"check".as_slice() => {
-            Some(Command::Check { graph, keys, proof })
-        }
+        [command, first, second, third] => three_files(command, first, second, third),
+        [command, option, workers, graph, more, keys]
+            if command.bytes() == b"grow".as_slice() && option.bytes() == b"--workers".as_slice() =>
+            {
+                Some(Command::Grow {
+                    workers: number_to(workers, MOST_WORKERS)?,
+                    graph,
+                    more,
+                    keys,
+                })
+            }
         [command, proof] if command.bytes() == b"convert".as_slice() => {
             Some(Command::Convert { proof })
         }

@@ -1,7 +1,6 @@
 -- The counts of the chase over the numbers are those over the triples.
-use Rattle.std.proofs.Common.{length, ◌∙◌, sym, ap, subst, arith}
+use Rattle.std.proofs.Common.{length, sym, ap, subst, arith}
 use Rattle.std.proofs.lemmas.Result.{err_from_is_err_and}
-use Rattle.chase_laws.specs.Shape.{Shape}
 use Rattle.chase_laws.specs.Graph.{NumberedGraph}
 use Rattle.match_run.specs.Classes.{AreClasses}
 use Rattle.demo_graph.specs.Counts.{IsMemberCount, IsClassCount}

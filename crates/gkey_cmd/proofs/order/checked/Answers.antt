@@ -4,9 +4,9 @@ use Rattle.std.proofs.lemmas.Result.{err_from_is_err_and}
 use Rattle.gk_io.specs.Files.{bytes_of}
 use Rattle.graph_rows.proofs.CallerLemmas.{told_more}
 use Rattle.gkey_cmd.specs.Commands.{Checking}
-use Rattle.gkey_cmd.specs.Reading.{GraphSays, KeyFileSays, ProofFileSays, IsAccepted}
+use Rattle.gkey_cmd.specs.Reading.{KeyFileSays, ProofFileSays, left_by, IsAcceptedLeaving}
 use Rattle.gkey_cmd.specs.declared.file.File.TheVariants.{Graph, Keys, Proof}
-use Rattle.gkey_cmd.proofs.Deciding.{read_none, read_next, file_left_first, stopped, graph_ends, check_stops_at_graph, check_stops_at_keys, check_stops_at_proof, check_ended}
+use Rattle.gkey_cmd.proofs.Deciding.{read_none, read_next, graph_read, file_left_first, keys_judged, proof_judged, stopped, graph_ends, check_stops_at_graph, check_stops_at_keys, check_stops_at_proof, check_ended}
 use Rattle.gkey_cmd.proofs.order.checked.Goals as goal
 
 pub returns-in_err-numbered_graph : goal.returns-in_err-numbered_graph
@@ -15,7 +15,7 @@ returns-in_err-numbered_graph g c =
     let k = c.from_residual in
     let p = err_from_is_err_and k.result k.ensures.1 in
     let none = read_none g.S.Shelf a.shelf.now a.limits.now in
-    rw (p.1, p.2) (stopped g.S.Shelf a.shelf.now a.shelf.now c.read_rows.new.shelf a.limits.now [] Graph a.graph.now none
+    rw (p.1, p.2) (stopped g.S.Shelf a.shelf.now a.shelf.now c.read_rows.new.shelf a.limits.now a.limits.now [] Graph a.graph.now none a.limits.now (λ files refusal h. h)
     (Checking a.graph.now a.keys.now a.proof.now) ((Keys, a.keys.now) ∷ (Proof, a.proof.now) ∷ []) refl
     (check_stops_at_graph g.S.Shelf a.shelf.now c.read_rows.new.shelf a.limits.now a.graph.now a.keys.now a.proof.now) _
     (graph_ends g.S.Shelf a.shelf.now c.read_rows.new.shelf a.limits.now a.graph.now c.in_err-numbered_graph.field-0.0 c.in_err-numbered_graph.ensures.gives))
@@ -25,14 +25,12 @@ returns-in_err-key_file g c =
     let a = c.args in
     let k = c.from_residual-in_err-key_file in
     let p = err_from_is_err_and k.result k.ensures.1 in
-    let none = read_none g.S.Shelf a.shelf.now a.limits.now in
     let r = c.in_ok-numbered_graph.ensures in
     let t = c.in_ok-numbered_graph.ensures.gives.1.0 in
-    let accepted = told_more (g.S.Shelf.held a.shelf.now) (λ files. GraphSays a.limits.now (bytes_of files a.graph.now) (Ok t)) (λ files. IsAccepted a.limits.now files Graph a.graph.now)
-    (λ files says. (t, says)) r.gives.1.1.says in
-    let one = read_next g.S.Shelf a.shelf.now a.shelf.now c.read_rows.new.shelf a.limits.now [] Graph a.graph.now none accepted r.gives.0 r.held in
-    rw (p.1, p.2) (stopped g.S.Shelf a.shelf.now c.read_rows.new.shelf c.read_keys.new.shelf a.limits.now ((Graph, a.graph.now) ∷ []) Keys a.keys.now one
-    (Checking a.graph.now a.keys.now a.proof.now) ((Proof, a.proof.now) ∷ []) refl
+    let one = graph_read g.S.Shelf a.shelf.now c.read_rows.new.shelf a.limits.now a.graph.now t r.gives.1.1.says r.gives.0 r.held in
+    let left = left_by a.limits.now t in
+    rw (p.1, p.2) (stopped g.S.Shelf a.shelf.now c.read_rows.new.shelf c.read_keys.new.shelf a.limits.now left ((Graph, a.graph.now) ∷ []) Keys a.keys.now one
+    a.limits.now (keys_judged a.limits.now left refl a.keys.now) (Checking a.graph.now a.keys.now a.proof.now) ((Proof, a.proof.now) ∷ []) refl
     (check_stops_at_keys g.S.Shelf a.shelf.now c.read_keys.new.shelf a.limits.now a.graph.now a.keys.now a.proof.now) c.in_err-key_file.field-0.0 c.in_err-key_file.ensures.ends)
 
 pub returns-in_err-told : goal.returns-in_err-told
@@ -40,18 +38,16 @@ returns-in_err-told g c =
     let a = c.args in
     let e = c.from_residual-in_err-told in
     let p = err_from_is_err_and e.result e.ensures.1 in
-    let none = read_none g.S.Shelf a.shelf.now a.limits.now in
     let r = c.in_ok-numbered_graph.ensures in
     let t = c.in_ok-numbered_graph.ensures.gives.1.0 in
     let k = c.in_ok-key_file in
-    let accepted = told_more (g.S.Shelf.held a.shelf.now) (λ files. GraphSays a.limits.now (bytes_of files a.graph.now) (Ok t)) (λ files. IsAccepted a.limits.now files Graph a.graph.now)
-    (λ files says. (t, says)) r.gives.1.1.says in
-    let one = read_next g.S.Shelf a.shelf.now a.shelf.now c.read_rows.new.shelf a.limits.now [] Graph a.graph.now none accepted r.gives.0 r.held in
-    let keys_accepted = told_more (g.S.Shelf.held c.read_rows.new.shelf) (λ files. KeyFileSays a.limits.now (bytes_of files a.keys.now) (Ok k.key_file)) (λ files. IsAccepted a.limits.now files Keys a.keys.now)
-    (λ files says. (k.key_file, says)) k.ensures.says in
-    let two = read_next g.S.Shelf a.shelf.now c.read_rows.new.shelf c.read_keys.new.shelf a.limits.now ((Graph, a.graph.now) ∷ []) Keys a.keys.now one keys_accepted k.ensures.count k.ensures.held in
-    rw (p.1, p.2) (stopped g.S.Shelf a.shelf.now c.read_keys.new.shelf c.read_proof.new.shelf a.limits.now ((Graph, a.graph.now) ∷ (Keys, a.keys.now) ∷ []) Proof a.proof.now two
-    (Checking a.graph.now a.keys.now a.proof.now) [] refl
+    let one = graph_read g.S.Shelf a.shelf.now c.read_rows.new.shelf a.limits.now a.graph.now t r.gives.1.1.says r.gives.0 r.held in
+    let left = left_by a.limits.now t in
+    let keys_accepted = told_more (g.S.Shelf.held c.read_rows.new.shelf) (λ files. KeyFileSays a.limits.now (bytes_of files a.keys.now) (Ok k.key_file)) (λ files. IsAcceptedLeaving left files Keys a.keys.now left)
+    (λ files says. (k.key_file, says, refl)) k.ensures.says in
+    let two = read_next g.S.Shelf a.shelf.now c.read_rows.new.shelf c.read_keys.new.shelf a.limits.now left ((Graph, a.graph.now) ∷ []) Keys a.keys.now one left keys_accepted k.ensures.count k.ensures.held in
+    rw (p.1, p.2) (stopped g.S.Shelf a.shelf.now c.read_keys.new.shelf c.read_proof.new.shelf a.limits.now left ((Graph, a.graph.now) ∷ (Keys, a.keys.now) ∷ []) Proof a.proof.now two
+    a.limits.now (proof_judged a.limits.now left refl a.proof.now) (Checking a.graph.now a.keys.now a.proof.now) [] refl
     (check_stops_at_proof g.S.Shelf a.shelf.now c.read_proof.new.shelf a.limits.now a.graph.now a.keys.now a.proof.now) c.in_err-told.field-0.0 c.in_err-told.ensures.ends)
 
 pub check_files-requires : goal.check_files-requires
@@ -72,13 +68,11 @@ returns g c =
     let d = c.in_ok-told in
     let in_keys = subst (λ o. IfSome o (λ files. KeyFileSays a.limits.now (bytes_of files a.keys.now) (Ok k.key_file))) r.held k.ensures.says in
     let in_proof = subst (λ o. IfSome o (λ files. ProofFileSays a.limits.now (bytes_of files a.proof.now) (Ok d.told))) (k.ensures.held ∙ r.held) d.ensures.says in
-    let none = read_none g.S.Shelf a.shelf.now a.limits.now in
-    let accepted = told_more (g.S.Shelf.held a.shelf.now) (λ files. GraphSays a.limits.now (bytes_of files a.graph.now) (Ok t)) (λ files. IsAccepted a.limits.now files Graph a.graph.now)
-    (λ files says. (t, says)) r.gives.1.1.says in
-    let one = read_next g.S.Shelf a.shelf.now a.shelf.now c.read_rows.new.shelf a.limits.now [] Graph a.graph.now none accepted r.gives.0 r.held in
-    let keys_accepted = told_more (g.S.Shelf.held c.read_rows.new.shelf) (λ files. KeyFileSays a.limits.now (bytes_of files a.keys.now) (Ok k.key_file)) (λ files. IsAccepted a.limits.now files Keys a.keys.now)
-    (λ files says. (k.key_file, says)) k.ensures.says in
-    let two = read_next g.S.Shelf a.shelf.now c.read_rows.new.shelf c.read_keys.new.shelf a.limits.now ((Graph, a.graph.now) ∷ []) Keys a.keys.now one keys_accepted k.ensures.count k.ensures.held in
-    let left = file_left_first g.S.Shelf a.shelf.now c.read_keys.new.shelf c.read_proof.new.shelf a.limits.now ((Graph, a.graph.now) ∷ (Keys, a.keys.now) ∷ []) Proof a.proof.now two a.limits.now.bytes d.ensures.left in
+    let one = graph_read g.S.Shelf a.shelf.now c.read_rows.new.shelf a.limits.now a.graph.now t r.gives.1.1.says r.gives.0 r.held in
+    let left = left_by a.limits.now t in
+    let keys_accepted = told_more (g.S.Shelf.held c.read_rows.new.shelf) (λ files. KeyFileSays a.limits.now (bytes_of files a.keys.now) (Ok k.key_file)) (λ files. IsAcceptedLeaving left files Keys a.keys.now left)
+    (λ files says. (k.key_file, says, refl)) k.ensures.says in
+    let two = read_next g.S.Shelf a.shelf.now c.read_rows.new.shelf c.read_keys.new.shelf a.limits.now left ((Graph, a.graph.now) ∷ []) Keys a.keys.now one left keys_accepted k.ensures.count k.ensures.held in
+    let proof_left = file_left_first g.S.Shelf a.shelf.now c.read_keys.new.shelf c.read_proof.new.shelf a.limits.now left ((Graph, a.graph.now) ∷ (Keys, a.keys.now) ∷ []) Proof a.proof.now two a.limits.now.bytes d.ensures.left in
     check_ended g.S.Shelf a.shelf.now c.read_proof.new.shelf a.limits.now a.graph.now a.keys.now t k.key_file (d.ensures.count ∙ k.ensures.count ∙ r.gives.0)
-    r.gives.1.1.says in_keys a.proof.now d.told in_proof left c.in_ok-answer.answer.0 c.in_ok-answer.answer.1 (c.in_ok-answer.ensures.answer t r.gives.1.1.stand) (c.in_ok-answer.ensures.text t r.gives.1.1.stand)
+    r.gives.1.1.says in_keys a.proof.now d.told in_proof proof_left c.in_ok-answer.answer.0 c.in_ok-answer.answer.1 (c.in_ok-answer.ensures.answer t r.gives.1.1.stand) (c.in_ok-answer.ensures.text t r.gives.1.1.stand)

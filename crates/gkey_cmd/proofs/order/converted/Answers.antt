@@ -11,8 +11,8 @@ returns-in_err-given g c =
     let a = c.args in
     let e = c.from_residual in
     let p = err_from_is_err_and e.result e.ensures.1 in
-    rw (p.1, p.2) (stopped g.S.Shelf a.shelf.now a.shelf.now c.read_proof.new.shelf a.limits.now [] Proof a.proof.now (read_none g.S.Shelf a.shelf.now a.limits.now)
-    (Converting a.proof.now) [] refl
+    rw (p.1, p.2) (stopped g.S.Shelf a.shelf.now a.shelf.now c.read_proof.new.shelf a.limits.now a.limits.now [] Proof a.proof.now (read_none g.S.Shelf a.shelf.now a.limits.now)
+    a.limits.now (λ files refusal h. h) (Converting a.proof.now) [] refl
     (convert_stops g.S.Shelf a.shelf.now c.read_proof.new.shelf a.limits.now [] [] a.proof.now) c.in_err-given.field-0.0 c.in_err-given.ensures.ends)
 
 pub returns-in_err-text : goal.returns-in_err-text

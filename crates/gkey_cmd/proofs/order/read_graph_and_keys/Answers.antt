@@ -2,11 +2,10 @@
 use Rattle.std.proofs.Common.{[], ◌∷◌, Ok, IfSome, refl, subst, ◌∙◌, arith}
 use Rattle.std.proofs.lemmas.Result.{err_from_is_err_and}
 use Rattle.gk_io.specs.Files.{bytes_of}
-use Rattle.graph_rows.proofs.CallerLemmas.{told_more}
 use Rattle.gkey_cmd.specs.Commands.{Matching}
-use Rattle.gkey_cmd.specs.Reading.{GraphSays, KeyFileSays, IsAccepted}
+use Rattle.gkey_cmd.specs.Reading.{KeyFileSays, left_by}
 use Rattle.gkey_cmd.specs.declared.file.File.TheVariants.{Graph, Keys}
-use Rattle.gkey_cmd.proofs.Deciding.{read_none, read_next, file_left_first, stopped, graph_ends, before_chase, stops_at_graph, stops_at_keys}
+use Rattle.gkey_cmd.proofs.Deciding.{read_none, graph_read, file_left_first, keys_judged, stopped, graph_ends, before_chase, stops_at_graph, stops_at_keys}
 use Rattle.gkey_cmd.proofs.order.read_graph_and_keys.Goals as goal
 
 pub returns-in_err-rows-clause-ends : goal.returns-in_err-rows-clause-ends
@@ -15,7 +14,7 @@ returns-in_err-rows-clause-ends g c =
     let k = c.from_residual in
     let p = err_from_is_err_and k.result k.ensures.1 in
     let none = read_none g.S.Shelf a.shelf.now a.limits.now in
-    rw (p.1, p.2) (stopped g.S.Shelf a.shelf.now a.shelf.now c.read_rows.new.shelf a.limits.now [] Graph a.graph.now none
+    rw (p.1, p.2) (stopped g.S.Shelf a.shelf.now a.shelf.now c.read_rows.new.shelf a.limits.now a.limits.now [] Graph a.graph.now none a.limits.now (λ files refusal h. h)
     (Matching a.graph.now a.keys.now) ((Keys, a.keys.now) ∷ []) refl
     (stops_at_graph g.S.Shelf a.shelf.now c.read_rows.new.shelf a.limits.now a.graph.now a.keys.now []) _
     (graph_ends g.S.Shelf a.shelf.now c.read_rows.new.shelf a.limits.now a.graph.now c.in_err-rows.field-0.0 c.in_err-rows.ensures.gives))
@@ -33,14 +32,12 @@ returns-in_err-read-clause-ends g c =
     let a = c.args in
     let k = c.from_residual-in_err-read in
     let p = err_from_is_err_and k.result k.ensures.1 in
-    let none = read_none g.S.Shelf a.shelf.now a.limits.now in
     let r = c.in_ok-rows.ensures in
     let t = r.gives.1 in
-    let accepted = told_more (g.S.Shelf.held a.shelf.now) (λ files. GraphSays a.limits.now (bytes_of files a.graph.now) (Ok t.0)) (λ files. IsAccepted a.limits.now files Graph a.graph.now)
-    (λ files says. (t.0, says)) t.1.says in
-    let one = read_next g.S.Shelf a.shelf.now a.shelf.now c.read_rows.new.shelf a.limits.now [] Graph a.graph.now none accepted r.gives.0 r.held in
-    rw (p.1, p.2) (stopped g.S.Shelf a.shelf.now c.read_rows.new.shelf c.read_keys.new.shelf a.limits.now ((Graph, a.graph.now) ∷ []) Keys a.keys.now one
-    (Matching a.graph.now a.keys.now) [] refl
+    let left = left_by a.limits.now t.0 in
+    let one = graph_read g.S.Shelf a.shelf.now c.read_rows.new.shelf a.limits.now a.graph.now t.0 t.1.says r.gives.0 r.held in
+    rw (p.1, p.2) (stopped g.S.Shelf a.shelf.now c.read_rows.new.shelf c.read_keys.new.shelf a.limits.now left ((Graph, a.graph.now) ∷ []) Keys a.keys.now one
+    a.limits.now (keys_judged a.limits.now left refl a.keys.now) (Matching a.graph.now a.keys.now) [] refl
     (stops_at_keys g.S.Shelf a.shelf.now c.read_keys.new.shelf a.limits.now a.graph.now a.keys.now []) c.in_err-read.field-0.0 c.in_err-read.ensures.ends)
 
 pub returns-in_err-read-clause-before : goal.returns-in_err-read-clause-before
@@ -57,17 +54,15 @@ returns-clause-read g c =
     let t = r.gives.1 in
     let k = c.in_ok-read in
     let in_keys = subst (λ o. IfSome o (λ files. KeyFileSays a.limits.now (bytes_of files a.keys.now) (Ok k.read))) r.held k.ensures.says in
-    let none = read_none g.S.Shelf a.shelf.now a.limits.now in
-    let accepted = told_more (g.S.Shelf.held a.shelf.now) (λ files. GraphSays a.limits.now (bytes_of files a.graph.now) (Ok t.0)) (λ files. IsAccepted a.limits.now files Graph a.graph.now)
-    (λ files says. (t.0, says)) t.1.says in
-    let one = read_next g.S.Shelf a.shelf.now a.shelf.now c.read_rows.new.shelf a.limits.now [] Graph a.graph.now none accepted r.gives.0 r.held in (
+    let left = left_by a.limits.now t.0 in
+    let one = graph_read g.S.Shelf a.shelf.now c.read_rows.new.shelf a.limits.now a.graph.now t.0 t.1.says r.gives.0 r.held in (
       t.0,
       record {
         stand = t.1.stand;
         count = k.ensures.count ∙ r.gives.0;
         in_graph = t.1.says;
         in_keys = in_keys;
-        left = file_left_first g.S.Shelf a.shelf.now c.read_rows.new.shelf c.read_keys.new.shelf a.limits.now ((Graph, a.graph.now) ∷ []) Keys a.keys.now one a.limits.now.key_bytes k.ensures.left;
+        left = file_left_first g.S.Shelf a.shelf.now c.read_rows.new.shelf c.read_keys.new.shelf a.limits.now left ((Graph, a.graph.now) ∷ []) Keys a.keys.now one a.limits.now.key_bytes k.ensures.left;
       },
     )
 

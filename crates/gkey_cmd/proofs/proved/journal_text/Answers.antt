@@ -3,7 +3,7 @@ use Rattle.std.proofs.Common.{List, ℕ, Some, Ok, All, map, length, slice_get, 
 use Rattle.chase_laws.specs.Shape.{Shape, IsPattern, PatternFacts}
 use Rattle.chase_laws.specs.Chase.{IsDerivation}
 use Rattle.key_file.specs.KeyShape.{KeyShape}
-use Rattle.proof_graph.specs.Tells.{AreSupported, TellsAll}
+use Rattle.proof_graph.specs.Tells.{TellsAll}
 use Rattle.proof_graph.specs.ProofText.{ProofSays}
 use Rattle.proof_graph.specs.CanonicalProof.{proof_text}
 use Rattle.gkey_cmd.proofs.Derived.{derived_supported, told_links, few_entries}
