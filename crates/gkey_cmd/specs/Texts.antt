@@ -13,7 +13,7 @@ use Rattle.gkey_cmd.specs.declared.ending.Refusal.TheVariants.{InGraph, InMore, 
 
 -- the usage text
 abbrev pub usage : List ℕ
-usage = codes "usage:\n  gkey match [--workers N] GRAPH KEYS\n  gkey prove [--workers N] GRAPH KEYS\n  gkey check GRAPH KEYS PROOF\n  gkey convert PROOF\n  gkey demo N\n  gkey merge [--workers N] GRAPH KEYS\n  gkey why [--workers N] GRAPH KEYS A B\n  gkey grow [--workers N] GRAPH MORE KEYS\n"
+usage = codes "usage:\n  gkey match [--workers N] GRAPH KEYS\n  gkey prove [--workers N] GRAPH KEYS\n  gkey check GRAPH KEYS PROOF\n  gkey convert PROOF\n  gkey demo N\n  gkey grow [--workers N] GRAPH MORE KEYS\n  gkey merge [--workers N] GRAPH KEYS\n  gkey why [--workers N] GRAPH KEYS A B\n"
 
 -- the texts of want of memory and of a failed write
 abbrev pub out_of_memory : List ℕ

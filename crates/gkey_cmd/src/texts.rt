@@ -43,7 +43,7 @@ pub(crate) const NO_COMMAND: u8 = 64;
 
 /// The text of `NO_COMMAND`.
 pub(crate) const USAGE: &[u8] =
-    b"usage:\n  gkey match [--workers N] GRAPH KEYS\n  gkey prove [--workers N] GRAPH KEYS\n  gkey check GRAPH KEYS PROOF\n  gkey convert PROOF\n  gkey demo N\n  gkey merge [--workers N] GRAPH KEYS\n  gkey why [--workers N] GRAPH KEYS A B\n  gkey grow [--workers N] GRAPH MORE KEYS\n";
+    b"usage:\n  gkey match [--workers N] GRAPH KEYS\n  gkey prove [--workers N] GRAPH KEYS\n  gkey check GRAPH KEYS PROOF\n  gkey convert PROOF\n  gkey demo N\n  gkey grow [--workers N] GRAPH MORE KEYS\n  gkey merge [--workers N] GRAPH KEYS\n  gkey why [--workers N] GRAPH KEYS A B\n";
 
 /// What a text calls a file.
 fn file_text(file: File) -> &'static [u8]
