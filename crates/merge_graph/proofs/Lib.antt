@@ -1,4 +1,6 @@
 mod FaceLemmas
+mod JoinedLemmas
 mod ListedLemmas
 mod LineLemmas
+mod RankLemmas
 mod ReadLemmas

@@ -10,6 +10,7 @@ use Rattle.gk_base.specs.declared.term.Term.{Term}
 use Rattle.gk_base.specs.declared.term.Term.TheVariants.{Plain}
 use Rattle.gk_base.specs.declared.term.Triple.{Triple}
 use Rattle.term_text.specs.CanonicalText.{triple_text}
+use Rattle.merge_graph.specs.Ranked.{IsJoinedOnce}
 use Rattle.merge_graph.specs.MergedGraph.{same_label, AreFaces, IsWithin, triple_at, image, ListsOnce, lines_of, AreApart}
 
 pub map_map : {X Y Z : Type 0} (g : Y → Z) (f : X → Y) (xs : List X) → map (λ x. g (f x)) xs ≡ map g (map f xs)
@@ -98,10 +99,9 @@ pub record Printed (names : List Term) (faces : List ℕ) (rows : List (List ℕ
   pub once : ListsOnce (map (image names faces) rows) listed
   pub whole : text ≡ lines_of listed
 
-pub printed : (names : List Term) (faces lent : List ℕ) (rows all lines : List (List ℕ)) (text : List ℕ) → lent ≡ faces → all ≡ map (λ row. triple_text (image names lent row)) rows
-    → IsStrictlySortedBy (slice_cmp nat_cmp) lines → ((line : List ℕ) → Contains lines line ↔ Contains all line) → text ≡ flat_map (λ line. line) lines → Printed names faces rows text
-printed names faces lent rows all lines text same_faces made up same joined =
-    let are : all ≡ map triple_text (map (image names faces) rows) =
-    made ∙ ap (λ fs. map (λ row. triple_text (image names fs row)) rows) same_faces ∙ map_map triple_text (image names faces) rows in
-    let l = listed_once (map (image names faces) rows) lines up (λ line. subst (λ (ls : List (List ℕ)). Contains lines line ↔ Contains ls line) are (same line)) in
-    record { listed = l.listed; once = l.once; whole = joined ∙ l.whole }
+pub printed : (names : List Term) (faces lent : List ℕ) (rows : List (List ℕ)) (text made : List ℕ) → lent ≡ faces → IsJoinedOnce (map (λ row. triple_text (image names lent row)) rows) made → text ≡ made → Printed names faces rows text
+printed names faces lent rows text made same_faces j is =
+    let are : map (λ row. triple_text (image names lent row)) rows ≡ map triple_text (map (image names faces) rows) =
+    ap (λ fs. map (λ row. triple_text (image names fs row)) rows) same_faces ∙ map_map triple_text (image names faces) rows in
+    let l = listed_once (map (image names faces) rows) j.lines j.ascends (λ line. subst (λ (ls : List (List ℕ)). Contains j.lines line ↔ Contains ls line) are (j.same line)) in
+    record { listed = l.listed; once = l.once; whole = is ∙ j.whole ∙ l.whole }

@@ -3,3 +3,4 @@ pub mod MergedGraph
 pub mod Saying
 -- inner invariants and words of the proofs
 pub mod Faces
+pub mod Ranked

@@ -7,14 +7,22 @@
 //! - `faces`: for each name its face
 //! - `face_table`: from a label to the face of the names that have it
 //! - `lines`: the lines of the triples, sorted and joined
+//! - `ranked`: the same by the ranks of names
+//! - `name_texts`: the texts of names
+//! - `ranks`: the names in the order of their texts, and their ranks
+//! - `ascending`: lines that are written as long as they ascend
 //! - `merged_text`: the text
 #![tactic(auto)]
 
+mod ascending;
 mod face_table;
 mod faces;
 mod lines;
 mod merged_text;
 mod merging;
+mod name_texts;
+mod ranked;
+mod ranks;
 
 pub use merged_text::MergedText;
 pub use merging::merge;

@@ -6,7 +6,7 @@ ghost use Rattle.merge_graph.specs.Saying.{CanBeSaid, IsReadAsMerged};
 
 use crate::MergedText;
 use crate::faces::faces;
-use crate::lines::{image_lines, joined, sorted_once};
+use crate::lines::merged_lines;
 use gk_base::NoMemory;
 use std::alloc::Global;
 use term_table::Names;
@@ -30,6 +30,5 @@ pub fn merge(
         → IsReadAsMerged names.now rows.now (same_label labels.now) text) }
 {
     let faces = faces(alloc, names, labels)?;
-    let lines = sorted_once(image_lines(alloc, names, &faces, rows)?);
-    Ok(MergedText::from_vec(joined(alloc, &lines)?))
+    Ok(MergedText::from_vec(merged_lines(alloc, names, &faces, rows)?))
 }

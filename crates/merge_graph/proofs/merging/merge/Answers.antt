@@ -1,8 +1,7 @@
 -- The lines are those of the images, each once, and the faces are those of the labels.
-use Rattle.std.proofs.Common.{List, map, ap, ◌∙◌, subst}
+use Rattle.std.proofs.Common.{List, map, subst}
 use Rattle.std.proofs.lemmas.List.{length-map}
 use Rattle.std.proofs.lemmas.List.Elements.{All-contains}
-use Rattle.std.specs.List.{flat_map}
 use Rattle.gk_base.specs.declared.term.Triple.{Triple}
 use Rattle.term_text.specs.CanonicalText.{term_text, texts_of}
 use Rattle.merge_graph.specs.MergedGraph.{image, ListsOnce}
@@ -14,8 +13,7 @@ use Rattle.merge_graph.proofs.merging.merge.Goals as goal
 pub returns-clause-merged : goal.returns-clause-merged
 returns-clause-merged c =
     let p : Printed c.args.names.now c.in_ok-faces.faces.items c.args.rows.now c.from_vec.result =
-    printed _ _ c.deref.result.now _ c.in_ok-image_lines.field-0.items c.sorted_once-lines.result.items _ c.deref.ensures.value c.in_ok-image_lines.ensures c.sorted_once-lines.ensures.ascends c.sorted_once-lines.ensures.same
-    (c.from_vec.ensures ∙ c.in_ok-joined.ensures ∙ ap (flat_map (λ line. line)) c.deref-2.ensures.value) in
+    printed _ _ c.deref.result.now _ _ c.in_ok-merged_lines.field-0.items c.deref.ensures.value c.in_ok-merged_lines.ensures c.from_vec.ensures in
     record {
       listed = p.listed;
       merged = record { faces = c.in_ok-faces.faces.items; are_faces = c.in_ok-faces.ensures; once = p.once };
@@ -26,8 +24,7 @@ pub returns-clause-unmerged : goal.returns-clause-unmerged
 returns-clause-unmerged c = λ apart.
     let names = c.args.names.now in
     let p : Printed names c.in_ok-faces.faces.items c.args.rows.now c.from_vec.result =
-    printed _ _ c.deref.result.now _ c.in_ok-image_lines.field-0.items c.sorted_once-lines.result.items _ c.deref.ensures.value c.in_ok-image_lines.ensures c.sorted_once-lines.ensures.ascends c.sorted_once-lines.ensures.same
-    (c.from_vec.ensures ∙ c.in_ok-joined.ensures ∙ ap (flat_map (λ line. line)) c.deref-2.ensures.value) in
+    printed _ _ c.deref.result.now _ _ c.in_ok-merged_lines.field-0.items c.deref.ensures.value c.in_ok-merged_lines.ensures c.from_vec.ensures in
     record {
       listed = p.listed;
       once = subst (λ (ts : List Triple). ListsOnce ts p.listed)
@@ -40,8 +37,7 @@ returns-clause-read_back c = λ can.
     let names = c.args.names.now in
     let faces = c.in_ok-faces.faces.items in
     let p : Printed names faces c.args.rows.now c.from_vec.result =
-    printed _ _ c.deref.result.now _ c.in_ok-image_lines.field-0.items c.sorted_once-lines.result.items _ c.deref.ensures.value c.in_ok-image_lines.ensures c.sorted_once-lines.ensures.ascends c.sorted_once-lines.ensures.same
-    (c.from_vec.ensures ∙ c.in_ok-joined.ensures ∙ ap (flat_map (λ line. line)) c.deref-2.ensures.value) in
+    printed _ _ c.deref.result.now _ _ c.in_ok-merged_lines.field-0.items c.deref.ensures.value c.in_ok-merged_lines.ensures c.from_vec.ensures in
     let sayable = images_sayable names (texts_of names) c.args.labels.now faces c.args.rows.now (length-map names term_text) c.in_ok-faces.ensures c.requires.rows can in
     record {
       listed = p.listed;
