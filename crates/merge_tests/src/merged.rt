@@ -2,8 +2,8 @@ ghost use Rattle.std.specs.Prelude.{All, IsTrue};
 ghost use Rattle.merge_graph.specs.MergedGraph.{IsWithin};
 
 use fixtures::texts::{ALBUMS, ALBUMS_AND_ARTISTS};
-use gk_base::{Limits, NoMemory, ReadStop};
-use merge_graph::merge;
+use gk_base::{Limits, NoMemory, ReadStop, Term, Text};
+use merge_graph::{MergedText, merge};
 use nt_reader::Reader;
 use std::alloc::Global;
 use std::test::Fail;
@@ -17,7 +17,7 @@ struct Merging {
     merged: &'static str,
 }
 
-static MERGED: [Merging; 6] = [
+static MERGED: [Merging; 7] = [
     // The first two albums are one.
     Merging {
         graph: ALBUMS,
@@ -76,6 +76,19 @@ _::x <urn:p> \"1\" .
 <urn:a> <urn:q> \"1\" .
 <urn:a> <urn:q> \"1\"@en .
 <urn:b> <urn:p> <urn:b> .
+",
+    },
+    // All triples become one.
+    Merging {
+        graph: b"\
+_:c <urn:p> _:b .
+_:b <urn:p> _:c .
+_:a <urn:p> _:a .
+_:c <urn:p> _:a .
+",
+        labels: &[0, 1, 0, 0],
+        merged: "\
+_:a <urn:p> _:a .
 ",
     },
     // Some texts begin with the whole of another.
@@ -148,5 +161,48 @@ fn each_name_stands_as_the_first_of_its_class(rt: HostRuntime) -> Result<(), Fai
         assert_eq!(rt; merged.bytes(), case.merged.as_bytes());
         assert_eq!(rt; merged.into_vec().as_slice(), case.merged.as_bytes());
     }
+    Ok(())
+}
+
+/// The number of a term, where there is room for one more.
+fn number_of(names: &mut Names, term: Term) -> Result<u32, NoMemory> {
+    if names.len() == u32::MAX {
+        return Err(NoMemory);
+    }
+    names.intern(term)
+}
+
+/// Names that are blank nodes with these labels, and then the IRI `urn:p`.
+fn names_with_labels(alloc: Global, labels: &[&[u8]]) -> Result<Names, NoMemory> {
+    let mut names = Names::new(alloc);
+    for label in labels {
+        let _ = number_of(&mut names, Term::Blank(Text::from_bytes(alloc, label)?))?;
+    }
+    let predicate = Term::Iri(Text::from_bytes(alloc, b"urn:p")?);
+    let _ = number_of(&mut names, predicate)?;
+    Ok(names)
+}
+
+/// The merged graph, where there is one label for each name and each number of the rows is a name.
+fn merged_of(
+    alloc: Global,
+    names: &Names,
+    rows: &[[u32; 3]],
+    labels: &[u32],
+) -> Result<Option<MergedText>, NoMemory> {
+    if names.len() as usize != labels.len() || !are_within(rows, names.len()) {
+        return Ok(None);
+    }
+    Ok(Some(merge(alloc, names, rows, labels)?))
+}
+
+#[test]
+fn names_that_no_file_spells_are_sorted_by_lines(rt: HostRuntime) -> Result<(), Fail> {
+    let alloc = rt.alloc();
+    let names = names_with_labels(alloc, &[b"b", b"b !", b"b\x01"])?;
+    let rows = [[0, 3, 0], [1, 3, 1], [2, 3, 2], [0, 3, 0]];
+    let merged = merged_of(alloc, &names, &rows, &[0, 1, 2, 3])?.expect(&rt, "all are names");
+    let lines = "_:b\x01 <urn:p> _:b\x01 .\n_:b ! <urn:p> _:b ! .\n_:b <urn:p> _:b .\n";
+    assert_eq!(rt; merged.bytes(), lines.as_bytes());
     Ok(())
 }
