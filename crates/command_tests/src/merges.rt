@@ -1,9 +1,10 @@
 //! Merged graphs.
 
-use crate::runs::{Case, FOUR_ALBUMS, MERGE, holds, printed};
-use fixtures::texts::{ALBUM_AND_ARTIST_KEYS, ALBUM_KEY, ALBUMS};
+use crate::runs::{Case, MERGE, holds, printed};
+use fixtures::texts::{ALBUM_AND_ARTIST_KEYS, ALBUM_KEY, ALBUMS, ALBUMS_AND_ARTISTS};
 use gk_base::Limits;
 use std::test::Fail;
+use steal_pool::OpenGate;
 
 /// The four albums and two artists, of which each two are the same.
 const FOUR_ALBUMS_MERGED: &str = "\
@@ -52,7 +53,11 @@ fn entities_stand_as_the_first_of_their_class(rt: HostRuntime) -> Result<(), Fai
         (ALBUMS, ALBUM_KEY, MERGE.out),
         (b"", ALBUM_KEY, ""),
         (ALBUMS, b"", ALBUMS_SORTED),
-        (FOUR_ALBUMS, ALBUM_AND_ARTIST_KEYS, FOUR_ALBUMS_MERGED),
+        (
+            ALBUMS_AND_ARTISTS,
+            ALBUM_AND_ARTIST_KEYS,
+            FOUR_ALBUMS_MERGED,
+        ),
         (BLANK_NODES, ONE_VALUE, BLANK_NODES_MERGED),
     ];
     for (row, (graph, keys, out)) in merged.into_iter().enumerate() {
@@ -72,7 +77,7 @@ fn merged_graphs_are_the_same_with_any_workers(rt: HostRuntime) -> Result<(), Fa
     for workers in ["1", "3", "64"] {
         let case = Case {
             words: &["merge", "--workers", workers, "g", "k"],
-            graph: FOUR_ALBUMS,
+            graph: ALBUMS_AND_ARTISTS,
             keys: ALBUM_AND_ARTIST_KEYS,
             out: FOUR_ALBUMS_MERGED,
             ..MERGE
@@ -85,11 +90,11 @@ fn merged_graphs_are_the_same_with_any_workers(rt: HostRuntime) -> Result<(), Fa
 #[test]
 fn a_merged_graph_is_matched_as_any_other(rt: HostRuntime) -> Result<(), Fail> {
     let merging = Case {
-        graph: FOUR_ALBUMS,
+        graph: ALBUMS_AND_ARTISTS,
         keys: ALBUM_AND_ARTIST_KEYS,
         ..MERGE
     };
-    let merged = printed(&rt, &merging)?.ok_or("no merged graph")?;
+    let merged = printed(&rt, &merging, &OpenGate)?.ok_or("no merged graph")?;
     let matching = Case {
         words: &["match", "g", "k"],
         graph: &merged,

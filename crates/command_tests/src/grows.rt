@@ -1,0 +1,271 @@
+//! Graphs that grow.
+
+use crate::runs::{Case, MERGE, USAGE, holds, printed};
+use fixtures::texts::{ALBUM_AND_ARTIST_KEYS, ALBUM_KEY, ALBUMS, ALBUMS_AND_ARTISTS};
+use gk_base::Limits;
+use std::sync::atomic::{AtomicU64, Ordering};
+use std::test::Fail;
+use steal_pool::Gate;
+
+/// What makes the two albums four by two artists: one pair of albums more of one name, and two artists of one name.
+const MORE_ALBUMS: &[u8] = b"\
+<urn:al3> <http://www.w3.org/1999/02/22-rdf-syntax-ns#type> <urn:Album> .
+<urn:al4> <http://www.w3.org/1999/02/22-rdf-syntax-ns#type> <urn:Album> .
+<urn:ar1> <http://www.w3.org/1999/02/22-rdf-syntax-ns#type> <urn:Artist> .
+<urn:ar2> <http://www.w3.org/1999/02/22-rdf-syntax-ns#type> <urn:Artist> .
+<urn:al3> <urn:name> \"Help!\" .
+<urn:al4> <urn:name> \"Help!\" .
+<urn:ar1> <urn:name> \"The Beatles\" .
+<urn:ar2> <urn:name> \"The Beatles\" .
+<urn:al1> <urn:by> <urn:ar1> .
+<urn:al2> <urn:by> <urn:ar2> .
+<urn:al3> <urn:by> <urn:ar1> .
+<urn:al4> <urn:by> <urn:ar2> .
+";
+
+const ALBUMS_AND_ARTISTS_MATCHED: &str = "\
+<urn:al1> <urn:al2>
+<urn:al3> <urn:al4>
+<urn:ar1> <urn:ar2>
+";
+
+/// Two entities with one value, of which one has a type.
+const ONE_TYPE: &[u8] = b"\
+<urn:a> <http://www.w3.org/1999/02/22-rdf-syntax-ns#type> <urn:T> .
+<urn:a> <urn:p> \"1\" .
+<urn:b> <urn:p> \"1\" .
+";
+
+/// The type of the other.
+const OTHER_TYPE: &[u8] = b"<urn:b> <http://www.w3.org/1999/02/22-rdf-syntax-ns#type> <urn:T> .\n";
+
+/// An entity and a blank node without a value.
+const BLANK_NODE: &[u8] = b"\
+_:n <http://www.w3.org/1999/02/22-rdf-syntax-ns#type> <urn:T> .
+<urn:a> <http://www.w3.org/1999/02/22-rdf-syntax-ns#type> <urn:T> .
+<urn:a> <urn:p> \"1\" .
+";
+
+/// Its value.
+const BLANK_VALUE: &[u8] = b"_:n <urn:p> \"1\" .\n";
+
+/// A key of one value.
+const ONE_VALUE: &[u8] = b"key k <urn:T>\nvalue $v\n?x <urn:p> $v\nend\n";
+
+/// Two pairs: c and d have two values in common, and f and g one value twice, which are not two.
+const TWO_PAIRS: &[u8] = b"\
+<urn:c> <http://www.w3.org/1999/02/22-rdf-syntax-ns#type> <urn:T> .
+<urn:d> <http://www.w3.org/1999/02/22-rdf-syntax-ns#type> <urn:T> .
+<urn:f> <http://www.w3.org/1999/02/22-rdf-syntax-ns#type> <urn:T> .
+<urn:g> <http://www.w3.org/1999/02/22-rdf-syntax-ns#type> <urn:T> .
+<urn:c> <urn:p> \"2\" .
+<urn:d> <urn:p> \"2\" .
+<urn:c> <urn:q> \"3\" .
+<urn:d> <urn:q> \"3\" .
+<urn:f> <urn:p> \"1\" .
+<urn:g> <urn:p> \"1\" .
+<urn:f> <urn:q> \"1\" .
+<urn:g> <urn:q> \"1\" .
+";
+
+/// A second value for f and g.
+const SECOND_VALUE: &[u8] = b"<urn:f> <urn:p> \"4\" .\n<urn:g> <urn:p> \"4\" .\n";
+
+/// A key of two values.
+const TWO_VALUES: &[u8] = b"key k <urn:T>\nvalue $v\nvalue $w\n?x <urn:p> $v\n?x <urn:q> $w\nend\n";
+
+/// Two albums, to which nothing is added.
+const GROW: Case<'static> = Case {
+    words: &["grow", "g", "m", "k"],
+    out: "<urn:al1> <urn:al2>\n",
+    ..MERGE
+};
+
+/// A growth that is refused.
+const REFUSED: Case<'static> = Case {
+    status: 2,
+    out: "",
+    ..GROW
+};
+
+#[test]
+fn the_report_is_that_of_both_graphs(rt: HostRuntime) -> Result<(), Fail> {
+    let grown: [(&[u8], &[u8], &[u8], &str); 7] = [
+        (
+            ALBUMS,
+            MORE_ALBUMS,
+            ALBUM_AND_ARTIST_KEYS,
+            ALBUMS_AND_ARTISTS_MATCHED,
+        ),
+        (ALBUMS, b"", ALBUM_KEY, GROW.out),
+        (b"", ALBUMS, ALBUM_KEY, GROW.out),
+        (b"", b"", ALBUM_KEY, ""),
+        (ALBUMS, ALBUMS, ALBUM_KEY, GROW.out),
+        (ONE_TYPE, OTHER_TYPE, ONE_VALUE, "<urn:a> <urn:b>\n"),
+        (BLANK_NODE, BLANK_VALUE, ONE_VALUE, "<urn:a> _:n\n"),
+    ];
+    for (row, (graph, more, keys, out)) in grown.into_iter().enumerate() {
+        let case = Case {
+            graph,
+            more,
+            keys,
+            out,
+            ..GROW
+        };
+        assert!(rt; holds(&rt, &case)?, "row {row}");
+    }
+    Ok(())
+}
+
+#[test]
+fn graphs_grow_the_same_with_any_workers(rt: HostRuntime) -> Result<(), Fail> {
+    for workers in ["1", "3", "64"] {
+        let case = Case {
+            words: &["grow", "--workers", workers, "g", "m", "k"],
+            more: MORE_ALBUMS,
+            keys: ALBUM_AND_ARTIST_KEYS,
+            out: ALBUMS_AND_ARTISTS_MATCHED,
+            ..GROW
+        };
+        assert!(rt; holds(&rt, &case)?, "{workers} workers");
+    }
+    Ok(())
+}
+
+#[test]
+fn added_graphs_are_refused_after_the_graph_and_before_keys(rt: HostRuntime) -> Result<(), Fail> {
+    let bad_more = Case {
+        more: b"<urn:a> <urn:p> \"x\" .\n<a> <urn:p> \"x\" .\n",
+        keys: b"end\n",
+        err: "more:2: relative IRI\n",
+        ..REFUSED
+    };
+    let bad_graph = Case {
+        graph: b"<urn:a> <urn:p> .\n",
+        err: "graph:1: object expected\n",
+        ..bad_more
+    };
+    let bad_keys = Case {
+        keys: b"end\n",
+        err: "keys:1: statement out of place\n",
+        ..REFUSED
+    };
+    let missing = Case {
+        words: &["grow", "g", "none", "k"],
+        status: 3,
+        err: "more: read failed\n",
+        ..REFUSED
+    };
+    let unread = Case {
+        words: GROW.words,
+        failing: 5,
+        ..missing
+    };
+    for (row, case) in [bad_more, bad_graph, bad_keys, missing, unread]
+        .into_iter()
+        .enumerate()
+    {
+        assert!(rt; holds(&rt, &case)?, "row {row}");
+    }
+    Ok(())
+}
+
+#[test]
+fn triples_and_pairs_of_both_graphs_are_limited_together(rt: HostRuntime) -> Result<(), Fail> {
+    let seven_triples = Case {
+        more: b"<urn:al1> <urn:by> <urn:ar1> .\n",
+        limits: Limits {
+            triples: 6,
+            ..Limits::STANDARD
+        },
+        err: "more:1: too many triples\n",
+        ..REFUSED
+    };
+    let six_triples = Case {
+        more: b"# none\n",
+        out: GROW.out,
+        status: 0,
+        err: "",
+        ..seven_triples
+    };
+    let one_pair = Case {
+        graph: ONE_TYPE,
+        more: OTHER_TYPE,
+        keys: ONE_VALUE,
+        limits: Limits {
+            pairs: 0,
+            ..Limits::STANDARD
+        },
+        err: "pairs: more than 0\n",
+        ..REFUSED
+    };
+    let no_pair = Case {
+        more: b"",
+        status: 0,
+        err: "",
+        ..one_pair
+    };
+    for (row, case) in [seven_triples, six_triples, one_pair, no_pair]
+        .into_iter()
+        .enumerate()
+    {
+        assert!(rt; holds(&rt, &case)?, "row {row}");
+    }
+    Ok(())
+}
+
+/// Words that ask for no command.
+static NO_GROWTH: [&'static [&'static str]; 6] = [
+    &["grow", "g", "k"],
+    &["grow", "g", "m", "k", "k"],
+    &["grow", "--workers", "4", "g", "k"],
+    &["grow", "--workers", "0", "g", "m", "k"],
+    &["grow", "--workers", "65", "g", "m", "k"],
+    &["match", "--workers", "4", "g", "m", "k"],
+];
+
+#[test]
+fn other_words_ask_for_no_growth(rt: HostRuntime) -> Result<(), Fail> {
+    for (row, words) in NO_GROWTH.iter().enumerate() {
+        let case = Case {
+            words,
+            status: 64,
+            out: "",
+            err: USAGE,
+            ..GROW
+        };
+        assert!(rt; holds(&rt, &case)?, "row {row}");
+    }
+    Ok(())
+}
+
+/// Counts the searches.
+#[derive(Drop)]
+struct Searches {
+    passed: AtomicU64,
+}
+
+impl Gate for Searches {
+    fn pass(&self, _worker: u32, _pair: u32) {
+        self.passed.fetch_add(1, Ordering::SeqCst);
+    }
+}
+
+/// The first graph's two pairs are searched, and then only the pair that the first chase has missed.
+#[test]
+fn what_was_identified_is_not_searched_again(rt: HostRuntime) -> Result<(), Fail> {
+    let searches = Searches {
+        passed: AtomicU64::new(0),
+    };
+    let case = Case {
+        words: &["grow", "--workers", "1", "g", "m", "k"],
+        graph: TWO_PAIRS,
+        more: SECOND_VALUE,
+        keys: TWO_VALUES,
+        ..GROW
+    };
+    let report = printed(&rt, &case, &searches)?.ok_or("no report")?;
+    assert!(rt; report.as_slice() == b"<urn:c> <urn:d>\n<urn:f> <urn:g>\n".as_slice());
+    assert_eq!(rt; searches.passed.load(Ordering::SeqCst), 3u64);
+    Ok(())
+}
