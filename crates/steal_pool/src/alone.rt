@@ -21,16 +21,6 @@ fn deal_alone(hints: &mut Vec<u32>, count: u32)
     }
 }
 
-/// The hints that a worker begins with: those that it has, or where it begins anew the first pairs.
-fn first_hints(hints: &mut Vec<u32>, count: u32, is_new: bool)
-    ensures { All (λ p. p < count) hints.new.items }
-{
-    let are_pairs = hints.iter().all(|pair| *pair < count);
-    if is_new || !are_pairs {
-        deal_alone(hints, count);
-    }
-}
-
 /// Takes the pair that was hinted last, or without a hint the first that is Ready, passes the gate, searches by the
 /// present labels and settles. It answers whether it had a hint or a pair.
 fn search_next<G: Gate>(
@@ -60,13 +50,11 @@ fn search_next<G: Gate>(
 }
 
 /// Searches until no pair is Ready, without the lock and without views: nothing is entered by another. Woken pairs are
-/// hints, as they are for workers who share. One that is new to the chase begins with the first pairs, and another with the hints
-/// that it has.
+/// hints, as they are for workers who share.
 pub fn work_alone<'a, G: Gate, R: Wait>(
     rt: &R,
     chase: Chase<'a>,
     workspace: Workspace,
-    is_new: bool,
     gate: &G,
 ) -> Chase<'a>
     ensures setup { result.setup ≡ chase.entry.setup }
@@ -76,7 +64,7 @@ pub fn work_alone<'a, G: Gate, R: Wait>(
     let mut workspace = workspace;
     let mut shared = Shared { chase };
     let count = shared.chase.setup().pairs().len() as u32;
-    first_hints(&mut workspace.pending, count, is_new);
+    deal_alone(&mut workspace.pending, count);
     for _ in rt.forever() {
         if !search_next(
             &mut shared,

@@ -5,7 +5,6 @@ ghost use Rattle.chase_core.specs.Setup.{Preparation};
 ghost use Rattle.steal_pool.specs.CrewMembers.{IsCrewMember, AllOutWith, pair_count, widest_of};
 ghost use Rattle.steal_pool.specs.Workspaces.{IsWorkspace};
 
-use crate::course::Course;
 use crate::crew_member::CrewMember;
 use crate::hints::Thief;
 use crate::shared::Shared;
@@ -56,12 +55,7 @@ fn members_of<'a>(
 {
     while let Some(pass) = passes.pop() {
         let workspace = workspaces.pop().unwrap();
-        let course = Course::new();
-        members.push_reserved(CrewMember {
-            pass,
-            workspace,
-            course,
-        });
+        members.push_reserved(CrewMember { pass, workspace });
     }
 }
 

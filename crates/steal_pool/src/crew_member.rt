@@ -1,6 +1,5 @@
 //! A worker with its pass of the lock.
 
-use crate::course::Course;
 use crate::workspace::Workspace;
 use turn_lock::{Journaled, Pass};
 
@@ -9,5 +8,4 @@ use turn_lock::{Journaled, Pass};
 pub struct CrewMember<T: Journaled> {
     pub pass: Pass<T>,
     pub workspace: Workspace,
-    pub course: Course,
 }

@@ -48,33 +48,6 @@ fn pop_or_steal(
     steal_any(thieves, steal_passes, number, count)
 }
 
-/// The hint that a worker pushed last.
-fn pop_own(own: &mut HintDeque, count: u32) -> Option<u32>
-    requires { IsOwnDeque count own.old }
-    ensures own { IsOwnDeque count own.new }
-    ensures hint { IfSome result (λ x. x < count) }
-{
-    pop(own)
-}
-
-/// The next hint of the worker's own: the last of the pairs that wait to be pushed, or the one that was pushed last.
-pub fn own_hint(workspace: &mut Workspace, n: u32) -> Option<u32>
-    requires count { workspace.old.count ≡ n }
-    requires own { IsOwnDeque n workspace.old.own }
-    requires pending { All (λ p. p < n) workspace.old.pending.items }
-    ensures count { workspace.new.count ≡ n }
-    ensures own { IsOwnDeque n workspace.new.own }
-    ensures passes { workspace.new.steal_passes ≡ workspace.old.steal_passes }
-    ensures pending { All (λ p. p < n) workspace.new.pending.items }
-    ensures jobs { workspace.new.jobs ≡ workspace.old.jobs }
-    ensures hint { IfSome result (λ p. p < n) }
-{
-    if let Some(hint) = workspace.pending.pop() {
-        return Some(hint);
-    }
-    pop_own(&mut workspace.own, n)
-}
-
 /// The next hint: the last of the pairs that wait to be pushed, the one that was pushed last, or another worker's.
 pub fn next_hint(workspace: &mut Workspace, thieves: &[Thief], n: u32) -> Option<u32>
     requires count { workspace.old.count ≡ n }
@@ -109,16 +82,6 @@ pub fn keep_woken(pending: &mut Vec<u32>, woken: &[u32], count: u32)
 {
     for k in 0..woken.len() {
         let _ = pending.push(woken[woken.len() - 1 - k]);
-    }
-}
-
-/// Keeps a pair as a hint, where it is one of so many. What there is no memory for is let go.
-pub fn keep_hint(pending: &mut Vec<u32>, pair: u32, count: u32)
-    requires { All (λ p. p < count) pending.old.items }
-    ensures { All (λ p. p < count) pending.new.items }
-{
-    if pair < count {
-        let _ = pending.push(pair);
     }
 }
 

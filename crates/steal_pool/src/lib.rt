@@ -1,8 +1,8 @@
 //! Workers that share one chase: they search at once, each in a thread of its own, and all hold one state of what is the
 //! same. The chase stands behind a lock that lets them in one at a time. In a turn a worker settles what it has searched
 //! and takes its next pairs; it searches between turns, by views of the labels that it took with them. A worker has a
-//! deque of hints, which are pairs that may be found now, and a range of pairs; it takes the hint that was pushed last, else the
-//! next pair of its range, else steals a hint, and takes the first Ready pair where nobody has any. Contracts say that the chase comes out over the same setup
+//! deque of hints, which are pairs that may be found now; it takes the hint that was pushed last, steals one where it has
+//! none, and takes the first Ready pair where nobody has any. Contracts say that the chase comes out over the same setup
 //! with a journal that goes on from what it was. How much of it the workers did is not part of them.
 //!
 //! - `crew`: a crew, made and mustered
@@ -13,8 +13,6 @@
 //! - `worker`: what a worker does until it ends
 //! - `turns`: a turn of a worker
 //! - `batch`: what a worker does with the chase in a turn
-//! - `course`: how a worker goes through the pairs
-//! - `signs`: what workers tell one another without the lock
 //! - `alone`: what a worker does that has a chase for itself
 //! - `hunt`: where a worker looks for a hint
 //! - `crew_member`: a worker with its pass of the lock
@@ -27,7 +25,6 @@
 
 mod alone;
 mod batch;
-mod course;
 mod crew;
 mod crew_member;
 mod deques;
@@ -37,7 +34,6 @@ mod hints;
 mod hunt;
 mod run;
 mod shared;
-mod signs;
 mod threads;
 mod turns;
 mod worker;

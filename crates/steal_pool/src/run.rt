@@ -6,20 +6,13 @@ ghost use Rattle.chase_laws.specs.declared.entry.Entry.{Entry};
 use crate::alone::work_alone;
 use crate::crew::Crew;
 use crate::crew_member::CrewMember;
-use crate::deques::DEALT;
 use crate::gate::Gate;
 use crate::shared::Shared;
-use crate::signs::Signs;
 use crate::threads::work_all;
-use crate::workspace::Workspace;
 use chase_core::Chase;
 use std::sync::Wait;
+use std::sync::atomic::AtomicU64;
 use std::thread::Threads;
-
-/// The one workspace, or the other.
-fn chosen(other: Option<Workspace>, workspace: Workspace, is_chosen: bool) -> Option<Workspace> {
-    if is_chosen { Some(workspace) } else { other }
-}
 
 /// Lets all workers run to their end, each in a thread of its own, or one worker on the thread that calls, and answers the
 /// chase: over the same setup, with a journal that has gone on from what it was. A worker passes the gate before each
@@ -40,29 +33,24 @@ pub fn run_crew<'a, G: Gate, R: Threads + Wait + Sync>(
         mut home,
     } = crew;
     let alone = members.len() == 1;
-    let signs = Signs::new(members.len() as u64 * u64::from(DEALT));
+    let in_search = AtomicU64::new(0);
     work_all(
         rt,
         &lock,
         thieves.as_slice(),
         gate,
-        &signs,
+        &in_search,
         members.as_mut_slice(),
     );
     let mut last = None;
     while let Some(member) = members.pop() {
-        let CrewMember {
-            pass,
-            workspace,
-            ..
-        } = member;
+        let CrewMember { pass, workspace } = member;
         home.push_reserved(pass);
-        let is_last = alone || signs.lone() == u64::from(workspace.number) + 1;
-        last = chosen(last, workspace, is_last);
+        last = Some(workspace);
     }
     let Shared { chase } = lock.close(home);
     match last {
-        Some(workspace) => work_alone(rt, chase, workspace, alone, gate),
-        None => chase,
+        Some(workspace) if alone => work_alone(rt, chase, workspace, gate),
+        _ => chase,
     }
 }

@@ -6,8 +6,8 @@ ghost use Rattle.steal_pool.specs.CrewMembers.{IsCrewMember};
 use crate::crew_member::CrewMember;
 use crate::gate::Gate;
 use crate::hints::Thief;
-use crate::signs::Signs;
 use std::sync::Wait;
+use std::sync::atomic::AtomicU64;
 use std::thread;
 use std::thread::Threads;
 use turn_lock::{Journaled, TurnLock};
@@ -20,13 +20,13 @@ pub trait Work: Journaled {
     /// The room that a view has to have.
     ghost widest: { Self.Base → ℕ };
 
-    /// By the signs workers tell one another what they are at.
+    /// The number counts the workers that search at the time.
     fn work<G: Gate, R: Wait>(
         rt: &R,
         lock: &TurnLock<Self>,
         thieves: &[Thief],
         gate: &G,
-        signs: &Signs,
+        in_search: &AtomicU64,
         member: &mut CrewMember<Self>,
     )
         requires { IsCrewMember pairs widest lock.now thieves.now member.old }
@@ -39,7 +39,7 @@ pub fn work_all<T: Work + Send, G: Gate, R: Threads + Wait + Sync>(
     lock: &TurnLock<T>,
     thieves: &[Thief],
     gate: &G,
-    signs: &Signs,
+    in_search: &AtomicU64,
     members: &mut [CrewMember<T>],
 )
     requires { All (IsCrewMember T.pairs T.widest lock.now thieves.now) members.old }
@@ -55,6 +55,6 @@ pub fn work_all<T: Work + Send, G: Gate, R: Threads + Wait + Sync>(
         &|_, member|
             requires { IsCrewMember T.pairs T.widest lock.now thieves.now member.now }
             ensures { IsCrewMember T.pairs T.widest lock.entry.now thieves.entry.now member.exit.now }
-        { T::work(rt, lock, thieves, gate, signs, member) },
+        { T::work(rt, lock, thieves, gate, in_search, member) },
     );
 }

@@ -9,11 +9,25 @@ use crate::crew_member::CrewMember;
 use crate::hints::Thief;
 use crate::hunt::push_kept;
 use crate::shared::Shared;
-use crate::signs::Signs;
 use chase_core::Setup;
 use chase_core::held_law::law_held;
 use std::sync::Wait;
+use std::sync::atomic::{AtomicU64, Ordering};
 use turn_lock::TurnLock;
+
+/// Counts a worker that searches from now on, and did not before.
+fn count_in(in_search: &AtomicU64, before: bool, now: bool) {
+    if now && !before {
+        in_search.fetch_add(1, Ordering::SeqCst);
+    }
+}
+
+/// No longer counts a worker that searched before, and does not now.
+fn count_out(in_search: &AtomicU64, before: bool, now: bool) {
+    if before && !now {
+        in_search.fetch_sub(1, Ordering::SeqCst);
+    }
+}
 
 /// Pushes the pairs that a worker's last settles woke.
 fn push_woken<'a>(
@@ -32,36 +46,12 @@ fn push_woken<'a>(
     );
 }
 
-/// Pushes the pairs that a worker's last settles woke, unless it goes on alone: then it keeps them.
-fn push_unless_alone<'a>(
-    lock: &TurnLock<Shared<'a>>,
-    thieves: &[Thief],
-    member: &mut CrewMember<Shared<'a>>,
-    next: Next,
-)
-    requires { IsAtWork lock.now thieves.now member.old }
-    ensures at_work { IsAtWork lock.now thieves.now member.new }
-    ensures pass { member.new.pass ≡ member.old.pass }
-{
-    match next {
-        Next::GoAlone => {}
-        _ => push_woken(lock, thieves, member),
-    }
-}
-
-/// Tells the others where a worker goes on alone.
-fn show(signs: &Signs, number: u32, next: Next) {
-    if let Next::GoAlone = next {
-        signs.go_alone(number);
-    }
-}
-
 /// A turn in which the worker's jobs are settled, and the next pairs taken.
 fn settle_and_take_in_turn<'a, R: Wait>(
     rt: &R,
     lock: &TurnLock<Shared<'a>>,
     thieves: &[Thief],
-    signs: &Signs,
+    in_search: &AtomicU64,
     member: &mut CrewMember<Shared<'a>>,
 ) -> (Next, &'a Setup)
     requires { IsAtWork lock.now thieves.now member.old }
@@ -72,24 +62,11 @@ fn settle_and_take_in_turn<'a, R: Wait>(
     let searched = member.workspace.searches;
     let mut turn = lock.enter(rt, &mut member.pass);
     let shared = turn.value();
-    let others = signs.searching() > u64::from(searched);
-    let number = member.workspace.number;
-    let stance = signs.stance(number);
-    let next = settle_and_take(
-        shared,
-        &mut member.workspace,
-        thieves,
-        &mut member.course,
-        others,
-        stance,
-    );
+    let others = in_search.load(Ordering::SeqCst) > u64::from(searched);
+    let next = settle_and_take(shared, &mut member.workspace, thieves, others);
     let setup = shared.chase.setup();
-    resize(&mut member.workspace, member.course.overtaken);
-    show(signs, number, next);
-    member
-        .course
-        .tell(signs, number, stance, member.workspace.searches);
-    signs.count_in(searched, member.workspace.searches);
+    resize(&mut member.workspace, lock.is_wanted(&member.pass));
+    count_in(in_search, searched, member.workspace.searches);
     lock.leave(turn, &mut member.pass);
     (next, setup)
 }
@@ -102,7 +79,7 @@ pub fn change_batch<'a, R: Wait>(
     rt: &R,
     lock: &TurnLock<Shared<'a>>,
     thieves: &[Thief],
-    signs: &Signs,
+    in_search: &AtomicU64,
     member: &mut CrewMember<Shared<'a>>,
 ) -> (Next, &'a Setup)
     requires { IsAtWork lock.now thieves.now member.old }
@@ -110,8 +87,8 @@ pub fn change_batch<'a, R: Wait>(
     ensures setup { base_of member.new.pass ≡ Some result.1.now }
 {
     let searched = member.workspace.searches;
-    let (next, setup) = settle_and_take_in_turn(rt, lock, thieves, signs, member);
-    push_unless_alone(lock, thieves, member, next);
-    signs.count_out(searched, member.workspace.searches);
+    let (next, setup) = settle_and_take_in_turn(rt, lock, thieves, in_search, member);
+    push_woken(lock, thieves, member);
+    count_out(in_search, searched, member.workspace.searches);
     (next, setup)
 }

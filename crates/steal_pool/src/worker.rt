@@ -14,13 +14,13 @@ use crate::gate::Gate;
 use crate::hints::Thief;
 use crate::hunt::next_hint;
 use crate::shared::Shared;
-use crate::signs::Signs;
 use crate::threads::Work;
 use crate::turns::change_batch;
 use crate::workspace::{Job, Progress};
 use chase_core::{Setup, outcome_of};
 use std::sync::Wait;
-use std::{hint, thread};
+use std::sync::atomic::{AtomicU64, Ordering};
+use std::thread;
 use turn_lock::TurnLock;
 
 /// Searches for the pair of a job that was taken. Another job stays as it is.
@@ -67,33 +67,12 @@ fn free_all(jobs: &mut Vec<Job>)
     }
 }
 
-/// A worker that begins has no pair, and a range.
-fn begin<'a>(
-    lock: &TurnLock<Shared<'a>>,
-    thieves: &[Thief],
-    signs: &Signs,
-    member: &mut CrewMember<Shared<'a>>,
-)
+/// A worker that begins has no pair.
+fn begin<'a>(lock: &TurnLock<Shared<'a>>, thieves: &[Thief], member: &mut CrewMember<Shared<'a>>)
     requires { IsCrewMember pair_count widest_of lock.now thieves.now member.old }
     ensures { IsAtWork lock.now thieves.now member.new }
 {
     free_all(&mut member.workspace.jobs);
-    member.course.claim(signs, member.workspace.count);
-}
-
-/// Claims a range where the worker is through with its own, and reads what the next turn copies views by.
-fn look_ahead<'a>(
-    lock: &TurnLock<Shared<'a>>,
-    thieves: &[Thief],
-    signs: &Signs,
-    setup: &Setup,
-    member: &mut CrewMember<Shared<'a>>,
-)
-    requires { IsAtWork lock.now thieves.now member.old }
-    ensures { IsAtWork lock.now thieves.now member.new }
-{
-    member.course.claim(signs, member.workspace.count);
-    member.course.read_ahead(setup, member.workspace.size);
 }
 
 /// Looks for a hint, and keeps it for the next turn. It answers whether there was one.
@@ -107,71 +86,30 @@ fn find_hint<'a>(
 {
     let count = member.workspace.count;
     match next_hint(&mut member.workspace, thieves, count) {
-        Some(pair) => {
-            let _ = member.workspace.pending.push(pair);
+        Some(hint) => {
+            let _ = member.workspace.pending.push(hint);
             true
         }
         None => false,
     }
 }
 
-/// Looks for a hint while nobody leads.
-fn find_unless_led<'a>(
-    lock: &TurnLock<Shared<'a>>,
-    thieves: &[Thief],
-    signs: &Signs,
-    member: &mut CrewMember<Shared<'a>>,
-) -> bool
-    requires { IsAtWork lock.now thieves.now member.old }
-    ensures { IsAtWork lock.now thieves.now member.new }
-{
-    if signs.is_led() {
-        return false;
-    }
-    find_hint(lock, thieves, member)
-}
-
-// For how many moments a worker rests at most before it looks again.
-const REST: u32 = 256;
-
-/// Rests for so many moments, and lets others have the processor. It answers for how many moments to rest next.
-fn rest(moments: u32) -> u32 {
-    for _ in 0..moments {
-        hint::spin_loop();
-    }
-    thread::yield_now();
-    moments.saturating_mul(2).min(REST)
-}
-
-/// Looks for hints, ever more rarely, until there is one, or no worker searches that could wake any.
+/// Looks for hints until there is one, or no worker searches that could wake any.
 fn look_again<'a, R: Wait>(
     rt: &R,
     lock: &TurnLock<Shared<'a>>,
     thieves: &[Thief],
-    signs: &Signs,
+    in_search: &AtomicU64,
     member: &mut CrewMember<Shared<'a>>,
 )
     requires { IsAtWork lock.now thieves.now member.old }
     ensures { IsAtWork lock.now thieves.now member.new }
 {
-    let mut moments = 1;
     for _ in rt.forever() {
-        if find_unless_led(lock, thieves, signs, member) || signs.is_quiet() {
+        if find_hint(lock, thieves, member) || in_search.load(Ordering::SeqCst) == 0 {
             return;
         }
-        moments = rest(moments);
-    }
-    unreachable!()
-}
-
-/// Waits until no worker leads, or one goes on alone.
-fn wait_while_led<R: Wait>(rt: &R, signs: &Signs) {
-    let mut moments = 1;
-    for _ in rt.forever() {
-        if !signs.is_led() || signs.lone() > 0 {
-            return;
-        }
-        moments = rest(moments);
+        thread::yield_now();
     }
     unreachable!()
 }
@@ -186,18 +124,15 @@ impl<'a> Work for Shared<'a> {
         lock: &TurnLock<Shared<'a>>,
         thieves: &[Thief],
         gate: &G,
-        signs: &Signs,
+        in_search: &AtomicU64,
         member: &mut CrewMember<Shared<'a>>,
     ) {
-        begin(lock, thieves, signs, member);
+        begin(lock, thieves, member);
         for _ in rt.forever() {
-            let (next, setup) = change_batch(rt, lock, thieves, signs, member);
+            let (next, setup) = change_batch(rt, lock, thieves, in_search, member);
             match next {
                 Next::End => return,
-                Next::Leave => return,
-                Next::GoAlone => return,
-                Next::Wait => wait_while_led(rt, signs),
-                Next::LookAgain => look_again(rt, lock, thieves, signs, member),
+                Next::LookAgain => look_again(rt, lock, thieves, in_search, member),
                 Next::Search => {
                     for k in 0..member.workspace.used.min(member.workspace.jobs.len()) {
                         if let Progress::Taken(ticket) = member.workspace.jobs[k].progress {
@@ -205,7 +140,6 @@ impl<'a> Work for Shared<'a> {
                             search_at(lock, thieves, setup, member, k);
                         }
                     }
-                    look_ahead(lock, thieves, signs, setup, member);
                 }
             }
         }

@@ -7,5 +7,5 @@ loop-init g c = record {
   setup = refl;
   count = sym (ap length c.pairs.ensures.pairs ∙ ap (λ (S : Preparation). length S.task.pairs) c.setup.ensures);
   grows = ([], sym (append-nil c.args.chase.book.journal));
-  hints = c.first_hints.ensures;
+  hints = c.deal_alone.ensures;
 }

@@ -10,11 +10,11 @@ use Rattle.steal_pool.proofs.batch.take_all.Goals as goal
 pub loop-k-preserved : goal.loop-k-preserved
 loop-k-preserved c =
     let v = c.loop-k.invariant in
-    let h = c.hint_from-hint.ensures in
+    let h = c.hint_unless-hint.ensures in
     let t = c.fill_job.ensures in
     let S = c.args.shared.now.chase.setup in
     let B = c.args.shared.now.chase.book in
-    let jobs = c.hint_from-hint.new.workspace.jobs.items in
+    let jobs = c.hint_unless-hint.new.workspace.jobs.items in
     let within : c.loop-k.k < length jobs = rw h.jobs (omega arith) in
     let rooms : All (HasRoom S.widest) jobs = rw h.jobs v.workspace.rooms in
     record {
@@ -26,64 +26,12 @@ loop-k-preserved c =
           (rw h.jobs v.jobs);
       workspace = record {
         count = h.count ∙ c.requires.workspace.count;
-        own = subst (λ (n : ℕ). IsOwnDeque n c.hint_from-hint.new.workspace.own) c.requires.workspace.count h.own;
-        passes = subst (λ (n : ℕ). ReachEach n c.args.thieves.now c.hint_from-hint.new.workspace.steal_passes.items) c.requires.workspace.count h.passes;
-        pending = subst (λ (n : ℕ). All (λ p. p < n) c.hint_from-hint.new.workspace.pending.items) c.requires.workspace.count h.pending;
+        own = subst (λ (n : ℕ). IsOwnDeque n c.hint_unless-hint.new.workspace.own) c.requires.workspace.count h.own;
+        passes = subst (λ (n : ℕ). ReachEach n c.args.thieves.now c.hint_unless-hint.new.workspace.steal_passes.items) c.requires.workspace.count h.passes;
+        pending = subst (λ (n : ℕ). All (λ p. p < n) c.hint_unless-hint.new.workspace.pending.items) c.requires.workspace.count h.pending;
         rooms = All-set (HasRoom S.widest) jobs c.loop-k.k c.fill_job.new.job
             (subst (λ (r : ℕ). S.widest ≤ r) (sym t.room)
             (subst (λ (j : Job). HasRoom S.widest j) (sym c.index_mut.ensures.value) (rooms c.loop-k.k c.index_mut.result.now within)))
             rooms;
       };
     }
-
-pub returns-then-taken-2-clause-workspace : goal.returns-then-taken-2-clause-workspace
-returns-then-taken-2-clause-workspace c =
-    let v = c.loop-k.invariant in
-    let h = c.hint_from-hint.ensures in
-    let t = c.fill_job.ensures in
-    let S = c.args.shared.now.chase.setup in
-    let jobs = c.hint_from-hint.new.workspace.jobs.items in
-    let within : c.loop-k.k < length jobs = rw h.jobs (omega arith) in
-    let rooms : All (HasRoom S.widest) jobs = rw h.jobs v.workspace.rooms in
-    record {
-      count = h.count ∙ c.requires.workspace.count;
-      own = subst (λ (n : ℕ). IsOwnDeque n c.hint_from-hint.new.workspace.own) c.requires.workspace.count h.own;
-      passes = subst (λ (n : ℕ). ReachEach n c.args.thieves.now c.hint_from-hint.new.workspace.steal_passes.items) c.requires.workspace.count h.passes;
-      pending = subst (λ (n : ℕ). All (λ p. p < n) c.hint_from-hint.new.workspace.pending.items) c.requires.workspace.count h.pending;
-      rooms = All-set (HasRoom S.widest) jobs c.loop-k.k c.fill_job.new.job
-          (subst (λ (r : ℕ). S.widest ≤ r) (sym t.room)
-          (subst (λ (j : Job). HasRoom S.widest j) (sym c.index_mut.ensures.value) (rooms c.loop-k.k c.index_mut.result.now within)))
-          rooms;
-    }
-
-pub returns-else-taken-2-clause-workspace : goal.returns-else-taken-2-clause-workspace
-returns-else-taken-2-clause-workspace c =
-    let v = c.loop-k.invariant in
-    let h = c.hint_from-hint.ensures in
-    let t = c.fill_job.ensures in
-    let S = c.args.shared.now.chase.setup in
-    let jobs = c.hint_from-hint.new.workspace.jobs.items in
-    let within : c.loop-k.k < length jobs = rw h.jobs (omega arith) in
-    let rooms : All (HasRoom S.widest) jobs = rw h.jobs v.workspace.rooms in
-    record {
-      count = h.count ∙ c.requires.workspace.count;
-      own = subst (λ (n : ℕ). IsOwnDeque n c.hint_from-hint.new.workspace.own) c.requires.workspace.count h.own;
-      passes = subst (λ (n : ℕ). ReachEach n c.args.thieves.now c.hint_from-hint.new.workspace.steal_passes.items) c.requires.workspace.count h.passes;
-      pending = subst (λ (n : ℕ). All (λ p. p < n) c.hint_from-hint.new.workspace.pending.items) c.requires.workspace.count h.pending;
-      rooms = All-set (HasRoom S.widest) jobs c.loop-k.k c.fill_job.new.job
-          (subst (λ (r : ℕ). S.widest ≤ r) (sym t.room)
-          (subst (λ (j : Job). HasRoom S.widest j) (sym c.index_mut.ensures.value) (rooms c.loop-k.k c.index_mut.result.now within)))
-          rooms;
-    }
-
-pub returns-else-taken-2-clause-jobs : goal.returns-else-taken-2-clause-jobs
-returns-else-taken-2-clause-jobs c =
-    let v = c.loop-k.invariant in
-    let h = c.hint_from-hint.ensures in
-    let t = c.fill_job.ensures in
-    let S = c.args.shared.now.chase.setup in
-    let B = c.args.shared.now.chase.book in
-    let jobs = c.hint_from-hint.new.workspace.jobs.items in
-    All-set (IsJob S.task B.journal) jobs c.loop-k.k c.fill_job.new.job
-    (subst (λ (Z : Preparation). IsJob Z.task B.journal c.fill_job.new.job) v.setup (subst (λ (b : Classes). IsJob c.loop-k.shared.chase.setup.task b.journal c.fill_job.new.job) v.book t.job))
-    (rw h.jobs v.jobs)

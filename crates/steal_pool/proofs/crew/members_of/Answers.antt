@@ -26,6 +26,6 @@ loop-pass-preserved c =
       room = search rules;
       home = search rules;
       parts = (S, ps.0, ws.0);
-      members = rw c.push_reserved.ensures.items (All-push H c.loop-pass.members.items (record { pass = c.in-Some.pass; workspace = c.unwrap-workspace.result; course = c.new-course.result }) v.members
+      members = rw c.push_reserved.ensures.items (All-push H c.loop-pass.members.items (record { pass = c.in-Some.pass; workspace = c.unwrap-workspace.result }) v.members
           (record { pass = ps.1.0; out = ps.1.1; base = S; based = ps.1.2; workspace = subst (λ (r : Option Workspace). IfSome r Q) c.unwrap-workspace.ensures ws.1 }));
     }
