@@ -1,5 +1,5 @@
 -- The event that each answer stands for.
-use Rattle.std.proofs.Common.{List, [], ◌∷◌, ℕ, suc, Some, All, slice_get, slice_set, get_or, length, ◌≡◌, ◌<◌, ◌⊎◌, ◌↔◌, inl, inr, ◌==◌, refl, sym, ◌∙◌, ap, subst, arith, eqb-true, eq-eqb, ne_eqb, ap₂, zero}
+use Rattle.std.proofs.Common.{List, [], ◌∷◌, ℕ, suc, Some, All, slice_get, slice_set, get_or, length, ◌≡◌, ◌≢◌, ◌<◌, ◌⊎◌, ◌↔◌, inl, inr, ◌==◌, refl, sym, ◌∙◌, ap, subst, arith, eqb-true, eq-eqb, ne_eqb, ap₂, zero}
 use Rattle.std.proofs.lemmas.Bool.{cases_Bool, cond-true, cond-false, both_ways}
 use Rattle.std.proofs.lemmas.Option.{slice_get_within, slice_get-get_or, get_or_from_slice_get, same_Some}
 use Rattle.chase_laws.specs.declared.pair_state.PairState.{PairState}
@@ -7,7 +7,7 @@ use Rattle.chase_laws.specs.declared.pair_state.PairState.TheVariants as state
 use Rattle.chase_laws.specs.Joined.{joined_by, Joined}
 use Rattle.chase_laws.specs.Valuation.{Matches}
 use Rattle.chase_laws.specs.View.{label_in, same_by}
-use Rattle.chase_laws.specs.Core.{Task, IsTask, PairAt, EndsJoined, ListsNear}
+use Rattle.chase_laws.specs.Core.{Task, IsTask, PairAt, EndsJoined, ListsNear, IsPresent}
 use Rattle.chase_laws.proofs.CallerLemmas.{near_named}
 use Rattle.paired_search.specs.Held.{Ascends}
 use Rattle.class_book.specs.Classes.{Classes}
@@ -116,3 +116,14 @@ answers_already old new t view outcome.Missed settled.Missed at s =
 answers_already old new t view (outcome.Found f) (settled.Reopened node seen now) at s = absurd s
 answers_already old new t view outcome.Missed (settled.Reopened node seen now) at s =
     ((λ e. absurd (cc)), (λ j. absurd (joined_apart old.setup.task (state_in old) t.pair (t.a, t.b, at, j) s.0.0)))
+
+-- ---- the last answer
+
+-- a pair is not searched again where the view has the present labels
+pub never_again : (old new : Running) (t : Ticket) (view : List (ℕ × ℕ)) (found : Outcome) (answer : Settled) → IsPresent (state_in old) view → Settles old t view found answer new →
+    (node seen now : ℕ) → answer ≢ settled.Reopened node seen now
+never_again old new t view found settled.Already present s node seen now e = absurd (cc)
+never_again old new t view found (settled.Entered place) present s node seen now e = absurd (cc)
+never_again old new t view found settled.Missed present s node seen now e = absurd (cc)
+never_again old new t view (outcome.Found f) (settled.Reopened n l m) present s node seen now e = absurd s
+never_again old new t view outcome.Missed (settled.Reopened n l m) present s node seen now e = let o = s.0.1 in o.3 (present o.0 o.1 o.2)

@@ -4,10 +4,11 @@ ghost use Rattle.std.specs.Prelude.{◌≡◌, ◌<◌, ◌≤◌, [], List, ℕ
 ghost use Rattle.chase_laws.specs.declared.pair_state.PairState.TheVariants as state;
 ghost use Rattle.chase_laws.specs.Joined.{Joined};
 ghost use Rattle.chase_laws.specs.Chase.{IsStep};
-ghost use Rattle.chase_laws.specs.Core.{IsSound, name_count, PairAt, ListsNear, Happens};
+ghost use Rattle.chase_laws.specs.Core.{IsSound, name_count, PairAt, ListsNear, IsPresent, Happens};
 ghost use Rattle.chase_laws.specs.Core.Event.{Enter};
 ghost use Rattle.paired_search.specs.Held.{Ascends};
 ghost use Rattle.list_pool.specs.Pool.{without};
+ghost use Rattle.chase_core.specs.declared.ticket.Outcome.TheVariants.{Missed};
 ghost use Rattle.chase_core.specs.Running.{state_of, running_with, journal_room};
 ghost use Rattle.chase_core.specs.Settling.{entry_of, IsRightOutcome, IsFirstOvertaken, RiseInOrder, Settles, Notes};
 ghost use Rattle.chase_core.specs.Inner.{SettlesMissed};
@@ -123,6 +124,46 @@ fn settle_missed(
     }
 }
 
+/// Settles a pair whose ends are joined already, or for which something was found. Where neither is so, it answers None and
+/// leaves all as it was.
+fn settle_unless_missed(
+    setup: &Setup,
+    book: &mut Book,
+    table: &mut PairTable,
+    aside: &mut Vec<u32>,
+    ticket: Ticket,
+    outcome: Outcome,
+    woken: &mut Woken,
+) -> Option<Settled>
+    requires sound { IsSound setup.now.task (state_of book.old table.old) }
+    requires ends { PairAt setup.now.task ticket.pair ticket.a ticket.b }
+    requires outcome { (view : List (ℕ × ℕ)) × IsRightOutcome setup.now.task (state_of book.old table.old) ticket view outcome }
+    requires room { book.old.room ≡ journal_room setup.now.task }
+    requires aside { length setup.now.task.pairs ≤ vec_capacity aside.old }
+    ensures settles { (view : List (ℕ × ℕ)) → IfSome result (λ s. Settles (running_with setup.now book.old table.old) ticket view outcome s (running_with setup.now book.new table.new)) }
+    ensures woken { IfSome result (λ s. Notes (running_with setup.now book.old table.old) ticket.pair s (running_with setup.now book.new table.new) woken.old.room woken.new.list) }
+    ensures missed { IfNone result ((outcome ≡ Missed) × ¬ (Joined book.old.journal ticket.a ticket.b)) }
+    ensures unchanged { IfNone result ((book.new ≡ book.old) × (table.new ≡ table.old) × (woken.new.list ≡ [])) }
+    ensures room { book.new.room ≡ book.old.room }
+    ensures aside { vec_capacity aside.new ≡ vec_capacity aside.old }
+    ensures woken_room { woken.new.room ≡ woken.old.room }
+{
+    setup.prepared();
+    woken.clear();
+    if book.same(ticket.a, ticket.b) {
+        table.mark(ticket.pair, PairState::Joined);
+        return Some(Settled::Already);
+    }
+    match outcome {
+        Outcome::Missed => None,
+        Outcome::Found(finding) => {
+            let entry = entry_of(ticket, finding);
+            let place = enter_found(setup, book, table, aside, ticket.pair, entry, woken);
+            Some(Settled::Entered(place))
+        }
+    }
+}
+
 /// Settles a pair that was searched. It takes a chase's fields and not the chase: the pair's mark, the entry and the pairs
 /// that it wakes are one event, and within it what every chase keeps does not hold.
 pub fn settle_parts(
@@ -148,17 +189,44 @@ pub fn settle_parts(
     ensures woken_room { woken.new.room ≡ woken.old.room }
 {
     setup.prepared();
-    woken.clear();
-    if book.same(ticket.a, ticket.b) {
-        table.mark(ticket.pair, PairState::Joined);
-        return Settled::Already;
+    match settle_unless_missed(setup, book, table, aside, ticket, outcome, woken) {
+        Some(settled) => settled,
+        None => settle_missed(setup, book, table, ticket, view),
     }
-    match outcome {
-        Outcome::Missed => settle_missed(setup, book, table, ticket, view),
-        Outcome::Found(finding) => {
-            let entry = entry_of(ticket, finding);
-            let place = enter_found(setup, book, table, aside, ticket.pair, entry, woken);
-            Settled::Entered(place)
+}
+
+/// Settles a pair as `settle_parts` does where the view has the present labels: nothing is compared.
+pub fn settle_fresh_parts(
+    setup: &Setup,
+    book: &mut Book,
+    table: &mut PairTable,
+    aside: &mut Vec<u32>,
+    ticket: Ticket,
+    view: &View,
+    outcome: Outcome,
+    woken: &mut Woken,
+) -> Settled
+    requires sound { IsSound setup.now.task (state_of book.old table.old) }
+    requires ends { PairAt setup.now.task ticket.pair ticket.a ticket.b }
+    requires view { ListsNear setup.now.task ticket.a ticket.b view.now.pairs }
+    requires outcome { IsRightOutcome setup.now.task (state_of book.old table.old) ticket view.now.pairs outcome }
+    requires present { IsPresent (state_of book.old table.old) view.now.pairs }
+    requires room { book.old.room ≡ journal_room setup.now.task }
+    requires aside { length setup.now.task.pairs ≤ vec_capacity aside.old }
+    ensures settles { Settles (running_with setup.now book.old table.old) ticket view.now.pairs outcome result (running_with setup.now book.new table.new) }
+    ensures woken { Notes (running_with setup.now book.old table.old) ticket.pair result (running_with setup.now book.new table.new) woken.old.room woken.new.list }
+    ensures room { book.new.room ≡ book.old.room }
+    ensures aside { vec_capacity aside.new ≡ vec_capacity aside.old }
+    ensures woken_room { woken.new.room ≡ woken.old.room }
+{
+    setup.prepared();
+    // The view only says in the contract what was searched.
+    let _ = view;
+    match settle_unless_missed(setup, book, table, aside, ticket, outcome, woken) {
+        Some(settled) => settled,
+        None => {
+            table.mark(ticket.pair, PairState::Missed);
+            Settled::Missed
         }
     }
 }

@@ -1,20 +1,26 @@
 -- A pair that was missed.
-use Rattle.std.proofs.Common.{sym, subst, ◌∙◌, true≢false}
-use Rattle.chase_laws.specs.Joined.{Joined}
+use Rattle.std.proofs.Common.{List, ℕ, sym, subst}
+use Rattle.class_book.specs.Classes.{Classes}
 use Rattle.chase_core.specs.declared.ticket.Outcome.{Outcome}
+use Rattle.chase_core.specs.Table.{Standings}
 use Rattle.chase_core.specs.Running.{state_of, running_with}
 use Rattle.chase_core.specs.Settling.{IsRightOutcome, Settles}
+use Rattle.chase_core.specs.Inner.{SettlesMissed}
 use Rattle.chase_core.proofs.Answering.{settles_missed}
 use Rattle.chase_core.proofs.settle.settle_parts.Goals as goal
 
-pub returns-in-Missed-clause-settles : goal.returns-in-Missed-clause-settles
-returns-in-Missed-clause-settles c =
+pub returns-in-None-clause-settles : goal.returns-in-None-clause-settles
+returns-in-None-clause-settles c =
     let S = c.args.setup.now in
     let book = c.args.book.now in
     let old = c.args.table.now in
+    let new = c.settle_missed.new.table in
     let t = c.args.ticket in
     let view = c.args.view.now.pairs in
-    let apart : ¬ (Joined book.journal t.a t.b) = λ j. true≢false (sym (c.same.ensures.1 j) ∙ c.if-same.false) in
-    let none = subst (IsRightOutcome S.task (state_of book old) t view) c.in-Missed.is c.requires.outcome in
-    subst (λ (o : Outcome). Settles (running_with S book old) t view o c.settle_missed.result (running_with S book c.settle_missed.new.table)) (sym c.in-Missed.is)
-    (settles_missed S book old c.settle_missed.new.table t view c.settle_missed.ensures.ascends c.requires.ends apart c.requires.view none c.settle_missed.result c.settle_missed.ensures.settles)
+    let answer = c.settle_missed.result in
+    let missed = c.in-None.ensures.missed in
+    let same = c.in-None.ensures.unchanged in
+    let none = subst (IsRightOutcome S.task (state_of book old) t view) missed.0 c.requires.outcome in
+    let settled : SettlesMissed book old new view t.pair answer = subst (λ (z : Classes × Standings). SettlesMissed z.0 z.1 new view t.pair answer) (λ i. (same.0 i, same.1 i)) c.settle_missed.ensures.settles in
+    subst (λ (z : Outcome × Classes). Settles (running_with S book old) t view z.0 answer (running_with S z.1 new)) (λ i. ((sym missed.0) i, (sym same.0) i))
+    (settles_missed S book old new t view c.settle_missed.ensures.ascends c.requires.ends missed.1 c.requires.view none answer settled)
