@@ -1,5 +1,5 @@
 -- What contracts see of a board, its scribe and its watchers (this project's own).
-use Rattle.std.specs.Prelude.{List, [], ◌∷◌, ◌++◌, ℕ, All, length, slice_index, ◌≡◌, ◌<◌}
+use Rattle.std.specs.Prelude.{List, [], ◌∷◌, ◌++◌, ℕ, Some, All, length, slice_get, slice_index, ◌≡◌, ◌<◌}
 use Rattle.atomic_table.specs.Seated.{TableId}
 use Rattle.chase_laws.specs.declared.entry.Entry.{Entry}
 use Rattle.chase_laws.specs.Joined.{Joined}
@@ -16,14 +16,20 @@ pub record SeenScribe : Type 0 where
   pub posted : List Entry
   pub shown : List ℕ
 
--- the board of a watcher, and the names that were read with their labels
+-- the board of a watcher, the entries that were posted when it last stood even with the scribe, and the names that were
+-- read with their labels
 pub record SeenWatcher : Type 0 where
   pub board : TableId
+  pub since : List Entry
   pub read : List (ℕ × ℕ)
 
 -- each label is joined with its name
 abbrev pub AllJoined : List Entry → List (ℕ × ℕ) → Type 0
 AllJoined entries pairs = All (λ p. Joined entries p.0 p.1) pairs
+
+-- each label is the one that is shown for its name
+abbrev pub AllShown : List ℕ → List (ℕ × ℕ) → Type 0
+AllShown labels pairs = All (λ p. slice_get labels p.0 ≡ Some p.1) pairs
 
 -- the names that a book's journal joins with a name are shown with the labels of the book, and all others as before
 pub record ShowsClass (before : List ℕ) (book : Classes) (name : ℕ) (after : List ℕ) : Type 0 where

@@ -18,6 +18,7 @@ fn read_both(words: &Words, watcher: &mut Place, left: &[u32], right: &[u32], vi
     requires room { min (length left.now + length right.now) words.now.key.names ≤ view.old.room }
     ensures table { watcher.new.table_id ≡ watcher.old.table_id }
     ensures names { NamesBoth left.now right.now view.new.pairs }
+    ensures since { watcher.new.me.0.since ≡ watcher.old.me.0.since }
     ensures read { watcher.new.me.0.read ≡ view.new.pairs }
     ensures room { view.new.room ≡ view.old.room }
 {
@@ -45,6 +46,7 @@ impl Board {
         ensures board { watcher.new.board ≡ watcher.old.board }
         ensures names { NamesBoth left.now right.now view.new.pairs }
         ensures ascends { Ascends view.new.pairs }
+        ensures since { watcher.new.since ≡ watcher.old.since }
         ensures read { watcher.new.read ≡ view.new.pairs }
         ensures room { view.new.room ≡ view.old.room }
     {

@@ -3,6 +3,7 @@
 ghost use Rattle.std.specs.Prelude.{◌≡◌};
 
 use crate::knowledge::{About, Knowledge, PostedLabels};
+use crate::steps::COUNT;
 use atomic_table::{Seat, Table};
 use chase_laws::Entry;
 use std::alloc::Global;
@@ -35,6 +36,12 @@ impl Board {
     {
         self.names
     }
+
+    /// How many entries seem to be posted. Nothing is proved of the answer: it is for one who has to choose whether to look
+    /// again.
+    pub fn posted_count(&self) -> u64 {
+        self.table.shared.peek(COUNT)
+    }
 }
 
 /// The right to post, which one holder has. Contracts see the board that it is for, the entries that were posted, and the
@@ -45,18 +52,19 @@ pub struct Scribe {
 }
 
 impl Model for Scribe {
-    ghost use Rattle.std.specs.Prelude.{◌≡◌, true, []};
+    ghost use Rattle.std.specs.Prelude.{◌≡◌, true};
     ghost use Rattle.label_board.specs.Seen.{SeenScribe};
+    ghost use Rattle.label_board.specs.Rule.{between_posts};
 
     ghost Value = { SeenScribe };
 
     ghost view = { λ s. record { board = s.seat.table_id; posted = s.seat.me.0.posted; shown = s.seat.me.0.shown } };
 
-    ghost invariant = { λ s. (s.seat.me.0.writes ≡ true) × (s.seat.me.0.read ≡ []) × (s.seat.me.0.notes ≡ []) };
+    ghost invariant = { λ s. (s.seat.me.0.writes ≡ true) × (s.seat.me.0 ≡ between_posts s.seat.me.0) };
 }
 
-/// The right to read. Contracts see the board that it is for, and the names that were read since the last glance, with
-/// their labels.
+/// The right to read. Contracts see the board that it is for, the entries that were posted when it last stood even with the
+/// scribe, and the names that were read since the last glance, with their labels.
 #[derive(Drop)]
 pub struct Watcher {
     /// It gives a watcher a size: an element with no bytes can't be lent for writing.
@@ -69,5 +77,5 @@ impl Model for Watcher {
 
     ghost Value = { SeenWatcher };
 
-    ghost view = { λ w. record { board = w.seat.table_id; read = w.seat.me.0.read } };
+    ghost view = { λ w. record { board = w.seat.table_id; since = w.seat.me.0.since; read = w.seat.me.0.read } };
 }

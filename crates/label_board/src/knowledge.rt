@@ -14,8 +14,13 @@ pub struct Knowledge {
     pub posted: LinkedList<Entry>,
     /// The label in the word of each name, which the scribe alone knows.
     pub shown: LinkedList<u32>,
+    /// The entries that were posted when the seat last stood even with the scribe. The scribe's own are those that it has
+    /// finished posting.
+    pub since: LinkedList<Entry>,
     /// The names with the labels that were loaded since the last glance.
     pub read: LinkedList<(u32, u32)>,
+    /// The entries that were posted when the watcher that is met last stood even.
+    pub noted_since: LinkedList<Entry>,
     /// What the watcher had read that is met.
     pub notes: LinkedList<(u32, u32)>,
 }

@@ -26,14 +26,14 @@ fn first_words(alloc: Global, book: &Book, names: u32) -> Result<Vec<u64>, NoMem
     Ok(words)
 }
 
-/// So many watchers, which have read nothing.
+/// So many watchers, which have read nothing, and stand as even as the seat that they are split from.
 fn hand_out(words: &Words, seat: &mut Place, count: u32, watchers: &mut Vec<Watcher>)
     requires words { IsSeatAt seat.old.table_id words.now.table_id words.now.key.names }
     requires nothing { seat.old.me.0.read ≡ [] }
     requires room { (vec_len watchers.old ≡ 0) × (count ≤ vec_capacity watchers.old) }
     ensures kept { (seat.new.table_id ≡ seat.old.table_id) × (seat.new.me ≡ seat.old.me) }
     ensures count { length watchers.new.items ≡ count }
-    ensures each { All (λ w. (w.board ≡ seat.old.table_id) × (w.read ≡ [])) watchers.new.items }
+    ensures each { All (λ w. (w.board ≡ seat.old.table_id) × (w.since ≡ seat.old.me.0.since) × (w.read ≡ [])) watchers.new.items }
 {
     for number in 0..count {
         let seat = another(words, seat);
@@ -43,7 +43,7 @@ fn hand_out(words: &Words, seat: &mut Place, count: u32, watchers: &mut Vec<Watc
 
 impl Board {
     /// A board over the names of a book, with its scribe and so many watchers. The word of each name holds its label in the
-    /// book, the book's journal is what was posted, and no watcher has read anything. No other call takes memory.
+    /// book, the book's journal is what was posted, and no watcher has read anything; all stand even. No other call takes memory.
     pub fn new(
         alloc: Global,
         book: &Book,
@@ -57,7 +57,7 @@ impl Board {
         ensures posted { IfOk result (λ r. r.1.posted ≡ book.now.journal) }
         ensures shown { IfOk result (λ r. r.1.shown ≡ book.now.labels) }
         ensures watchers { IfOk result (λ r. length r.2.items ≡ watchers) }
-        ensures read { IfOk result (λ r. All (λ w. (w.board ≡ r.0.id) × (w.read ≡ [])) r.2.items) }
+        ensures read { IfOk result (λ r. All (λ w. (w.board ≡ r.0.id) × (w.since ≡ book.now.journal) × (w.read ≡ [])) r.2.items) }
     {
         let words = first_words(alloc, book, names)?;
         let mut handles = Vec::with_capacity(alloc, watchers as usize)?;

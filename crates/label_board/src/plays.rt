@@ -40,7 +40,7 @@ impl Play<Entry, Knowledge> for Glance {
     ghost then = { Glances };
 }
 
-/// The count is loaded by the scribe, which has a watcher's notes.
+/// The count is loaded by the scribe, which has met the watcher whose notes it has, and is between posts afterwards.
 pub(crate) struct Meet;
 
 impl Play<Entry, Knowledge> for Meet {
@@ -49,7 +49,8 @@ impl Play<Entry, Knowledge> for Meet {
     ghost then = { Meets };
 }
 
-/// A seat is split, and the new one has read as much; or such a seat is joined into another, as its notes.
+/// A seat is split, and the new one has read as much since the same entries; or such a seat is joined into another, as its
+/// notes.
 pub(crate) struct Note;
 
 impl Split<Knowledge> for Note {
@@ -57,7 +58,7 @@ impl Split<Knowledge> for Note {
 
     ghost left = { λ v. v };
 
-    ghost right = { λ v. watcher_of v.read };
+    ghost right = { λ v. watcher_of v.since v.read };
 }
 
 impl Join<Knowledge> for Note {
@@ -66,5 +67,5 @@ impl Join<Knowledge> for Note {
 
     ghost both = { noting };
 
-    ghost spent = { watcher_of [] };
+    ghost spent = { watcher_of [] [] };
 }

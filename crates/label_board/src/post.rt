@@ -7,7 +7,7 @@ ghost use Rattle.label_board.specs.Seen.{HasEntered, ShowsClass};
 ghost use Rattle.label_board.specs.Rule.{IsSeatAt, with_shown};
 
 use crate::handles::{Board, Scribe};
-use crate::steps::{Place, Words, count_up, write_label};
+use crate::steps::{Place, Words, count_up, load_count, write_label};
 use class_book::Book;
 
 /// Writes the label of each member of a name's class.
@@ -16,6 +16,7 @@ fn write_class(words: &Words, scribe: &mut Place, book: &Book, name: u32)
     requires names { length book.now.labels ≡ words.now.key.names }
     requires name { name < length book.now.labels }
     requires scribe { (scribe.old.me.0.writes ≡ true) × (scribe.old.me.0.posted ≡ book.now.journal) }
+    requires posting { length scribe.old.me.0.since < length scribe.old.me.0.posted }
     ensures table { scribe.new.table_id ≡ scribe.old.table_id }
     ensures kept { scribe.new.me ≡ (with_shown scribe.old.me.0 scribe.new.me.0.shown, scribe.old.me.1) }
     ensures shown { ShowsClass scribe.old.me.0.shown book.now name scribe.new.me.0.shown }
@@ -50,5 +51,6 @@ impl Board {
         let entry = journal[place];
         count_up(&self.table.shared, &mut scribe.seat, place as u64, &entry);
         write_class(&self.table.shared, &mut scribe.seat, book, entry.a);
+        load_count(&self.table.shared, &mut scribe.seat);
     }
 }

@@ -14,6 +14,7 @@ loop-i-preserved c =
     let l = c.load_label.result in
     record {
       table = c.load_label.ensures.table ∙ v.table;
+      since = ap (λ k. k.since) c.load_label.ensures.me ∙ v.since;
       read = ap (λ k. k.read) c.load_label.ensures.me ∙ ap (λ ps. ps ++ (n, l) ∷ []) v.read ∙ sym c.push.ensures.pairs;
       room = c.push.ensures.room ∙ v.room;
       walked = subst (IsWalkedTo xs c.past-i.result ys c.past-j.result) (sym c.push.ensures.pairs)

@@ -7,5 +7,5 @@ invariant-loop-number l = record {
   me : l.seat.me ≡ l.fn.seat.me;
   made : vec_len l.watchers ≡ l.number;
   room : l.count ≤ vec_capacity l.watchers;
-  each : All (λ w. (w.board ≡ l.fn.seat.table_id) × (w.read ≡ [])) l.watchers.items;
+  each : All (λ w. (w.board ≡ l.fn.seat.table_id) × (w.since ≡ l.fn.seat.me.0.since) × (w.read ≡ [])) l.watchers.items;
 }

@@ -1,5 +1,5 @@
-use Rattle.std.proofs.Common.{rules, ap, ◌∙◌}
-use Rattle.label_board.proofs.Keeps.{splits, joins, meets}
+use Rattle.std.proofs.Common.{rules}
+use Rattle.label_board.proofs.Keeps.{splits, joins}
 use Rattle.label_board.proofs.steps.compare.Goals as goal
 
 pub split_seat-note-requires : goal.split_seat-note-requires
@@ -7,6 +7,3 @@ split_seat-note-requires c = (search rules, search rules, splits _ _ _)
 
 pub join_seat-requires : goal.join_seat-requires
 join_seat-requires c = (search rules, search rules, search rules, search rules, joins _ _ _ _ _)
-
-pub load-requires : goal.load-requires
-load-requires c = (search rules, search rules, meets _ _ _ _ (ap (λ m. m.0.writes) c.join_seat.ensures.2 ∙ c.requires.scribe.0))
