@@ -2,6 +2,7 @@
 
 ghost use Rattle.std.specs.Prelude.{◌≡◌, ◌<◌, ◌≤◌, [], All, IfOk, length};
 ghost use Rattle.std.specs.List.Sorted.{IsStrictlyIncreasing};
+ghost use Rattle.label_board.specs.Seen.{AllShown};
 
 use crate::posts::{enter, enter_all};
 use class_book::Book;
@@ -152,5 +153,122 @@ fn labels_fall_while_others_post(rt: HostRuntime) -> Result<(), Fail> {
     );
     assert_eq!(rt; risen, 0);
     assert_eq!(rt; book.journal().len(), 999);
+    Ok(())
+}
+
+/// How many labels of a view are not the book's.
+fn count_stale(book: &Book, names: u32, view: &View) -> u32
+    requires { length book.now.labels ≡ names }
+{
+    let mut stale: u32 = 0;
+    for place in 0..view.len() {
+        let (name, label) = view.at(place);
+        if name < names && book.label(name) != label {
+            stale = stale.saturating_add(1);
+        }
+    }
+    stale
+}
+
+/// One thread looks how many entries seem to be posted, and another fills a view of all names meanwhile.
+fn look_and_fill<R: Threads>(
+    rt: &R,
+    board: &Board,
+    watcher: &mut Watcher,
+    names: &[u32],
+    view: &mut View,
+) -> u64
+    requires watcher { watcher.old.board ≡ board.now.id }
+    requires names { IsStrictlyIncreasing names.now × All (λ n. n < board.now.names) names.now }
+    requires room { length names.now ≤ view.old.room }
+    ensures board { watcher.new.board ≡ board.now.id }
+    ensures since { watcher.new.since ≡ watcher.old.since }
+    ensures read { watcher.new.read ≡ view.new.pairs }
+    ensures room { view.new.room ≡ view.old.room }
+{
+    let mut posted = 0;
+    thread::join_mut(
+        rt,
+        &mut || posted = board.posted_count(),
+        &mut || board.fill(watcher, names, &[], view),
+    );
+    posted
+}
+
+/// A watcher stands even again, fills a view in a second thread, and meets the scribe: it has read what is shown. It answers
+/// how many entries seem to be posted.
+fn read_afresh<R: Threads>(
+    rt: &R,
+    board: &Board,
+    scribe: &mut Scribe,
+    watcher: &mut Watcher,
+    names: &[u32],
+    view: &mut View,
+) -> u64
+    requires scribe { scribe.old.board ≡ board.now.id }
+    requires watcher { watcher.old.board ≡ board.now.id }
+    requires names { IsStrictlyIncreasing names.now × All (λ n. n < board.now.names) names.now }
+    requires room { length names.now ≤ view.old.room }
+    ensures scribe { scribe.new ≡ scribe.old }
+    ensures board { watcher.new.board ≡ board.now.id }
+    ensures shown { AllShown scribe.old.shown view.new.pairs }
+    ensures room { view.new.room ≡ view.old.room }
+{
+    board.renew(scribe, watcher);
+    let posted = look_and_fill(rt, board, watcher, names, view);
+    board.meet(watcher, scribe);
+    posted
+}
+
+/// Joins 0 with 1, 1 with 2, and so on, and posts each entry. After a post the view that was filled before has an old label,
+/// and one that is read afresh has the book's.
+fn post_and_read<R: Threads + Abort>(
+    rt: &R,
+    board: &Board,
+    scribe: &mut Scribe,
+    book: &mut Book,
+    watcher: &mut Watcher,
+    names: &[u32],
+    view: &mut View,
+    count: u32,
+)
+    requires scribe { (scribe.old.board ≡ board.now.id) × (scribe.old.posted ≡ book.old.journal) × (scribe.old.shown ≡ book.old.labels) }
+    requires book { (length book.old.labels ≡ board.now.names) × (book.old.journal ≡ []) × (book.old.room ≡ count) × (count < board.now.names) }
+    requires watcher { watcher.old.board ≡ board.now.id }
+    requires names { IsStrictlyIncreasing names.now × All (λ n. n < board.now.names) names.now }
+    requires room { length names.now ≤ view.old.room }
+{
+    for name in 0..count {
+        enter(rt, book, board, scribe, name, name + 1);
+        assert_eq!(rt; count_stale(book, board.names(), view), 1);
+        let posted = read_afresh(rt, board, scribe, watcher, names, view);
+        assert_eq!(rt; posted, name as u64 + 1);
+        assert_eq!(rt; count_stale(book, board.names(), view), 0);
+    }
+}
+
+#[test]
+fn what_is_read_after_a_renew_is_shown(rt: HostRuntime) -> Result<(), Fail> {
+    let alloc = rt.alloc();
+    let mut book = Book::new(alloc, 10, 9)?;
+    let mut view = View::new(alloc, 10)?;
+    let (board, mut scribe, mut watchers) = Board::new(alloc, &book, 10, 1)?;
+    let mut watcher = watchers.pop().unwrap();
+    let names = numbers(alloc, 10)?;
+    let names = names.as_slice();
+    let posted = look_and_fill(&rt, &board, &mut watcher, names, &mut view);
+    assert_eq!(rt; posted, 0);
+    assert_eq!(rt; count_stale(&book, 10, &view), 0);
+    post_and_read(
+        &rt,
+        &board,
+        &mut scribe,
+        &mut book,
+        &mut watcher,
+        names,
+        &mut view,
+        9,
+    );
+    assert_eq!(rt; book.journal().len(), 9);
     Ok(())
 }
