@@ -1,22 +1,25 @@
 //! A graph in numbers: what it is built from, and the look-ups in it.
 
-ghost use Rattle.std.specs.Prelude.{◌≡◌, ◌<◌, ◌≤◌, ◌^◌, List, ◌↔◌, ℕ, All, Contains, IfOk, IsTrue, length, slice_index};
+ghost use Rattle.std.specs.Prelude.{◌≡◌, ◌<◌, ◌≤◌, ◌^◌, [], ◌∷◌, List, ◌↔◌, ℕ, All, Contains, IfOk, IsTrue, length, slice_index};
 ghost use Rattle.std.specs.Option.{ForSome};
 ghost use Rattle.std.specs.Ordering.{nat_cmp};
 ghost use Rattle.std.specs.Cmp.Lexicographic.{slice_cmp};
 ghost use Rattle.std.specs.List.Sorted.{IsStrictlyIncreasing, IsStrictlySortedBy};
 ghost use Rattle.chase_laws.specs.Graph.{NumberedGraph, IsGraph, IsFolding, HasRow, HasType, IsLiteral, IsEntity};
 ghost use Rattle.chase_laws.specs.Valuation.{FitsSlot};
-ghost use Rattle.typed_graph.specs.Types.{IsTrueOf};
+ghost use Rattle.typed_graph.specs.Table.{TableHas};
+ghost use Rattle.typed_graph.specs.Types.{AreTypes, IsTrueOf};
 
 use crate::Index;
 use crate::ascending::holds;
-use crate::rows::{sorted, turn};
-use crate::types::{TypesOf, types_of_all};
+use crate::orders::{SortedRows, both_orders, sort_forward};
+use crate::rows::turn;
+use crate::types::TypesOf;
 use chase_laws::Slot;
 use gk_base::NoMemory;
 use std::alloc::Global;
 use std::marker::Model;
+use std::thread::Threads;
 
 /// A graph whose names are the numbers below `names()`, with its rows in order and two indexes of them. Contracts see
 /// it as the rows, the literals' flags, the number of `rdf:type` where that is a name, and what each name is alike to.
@@ -47,6 +50,47 @@ impl Model for Graph {
     ghost invariant = { IsIndexed };
 }
 
+/// Below so many rows a thread costs more than it saves.
+const FEW: usize = 4096;
+
+/// The graph of rows in both orders.
+fn assembled(
+    sorted: SortedRows,
+    backward: Index,
+    literal: Vec<bool>,
+    rdf_type: Option<u32>,
+    alike: Vec<u32>,
+) -> Graph
+    requires ascending { IsStrictlySortedBy (slice_cmp nat_cmp) sorted.rows.items }
+    requires three { All (λ row. length row ≡ 3) sorted.rows.items }
+    requires forward { (n p c : ℕ) → TableHas sorted.forward n p c ↔ Contains sorted.rows.items (n ∷ p ∷ c ∷ []) }
+    requires backward { (n p c : ℕ) → TableHas backward n p c ↔ Contains sorted.rows.items (c ∷ p ∷ n ∷ []) }
+    requires types { AreTypes sorted.forward rdf_type (length literal.items) sorted.types.items }
+    requires named { All (λ row. All (λ n. n < length literal.items) row) sorted.rows.items }
+    requires type_named { ForSome rdf_type (λ p. p < length literal.items) }
+    requires folding { IsFolding (record { rows = sorted.rows.items; literal = literal.items; rdf_type = rdf_type; alike = alike.items }) }
+    requires few { length literal.items < 2 ^ 32 }
+    ensures rows { result.rows ≡ sorted.rows.items }
+    ensures literal { result.literal ≡ literal.items }
+    ensures rdf_type { result.rdf_type ≡ rdf_type }
+    ensures alike { result.alike ≡ alike.items }
+{
+    let SortedRows {
+        rows,
+        forward,
+        types,
+    } = sorted;
+    Graph {
+        rows,
+        literal,
+        rdf_type,
+        alike,
+        forward,
+        backward,
+        types,
+    }
+}
+
 impl Graph {
     /// Sorts the rows and builds the indexes. `rows` may come in any order and with repeats; `names` is how many names
     /// there are, `literal` has a flag for each, `rdf_type` is the number of `rdf:type` where that is a name, and
@@ -69,19 +113,38 @@ impl Graph {
         ensures rdf_type { IfOk result (λ g. g.rdf_type ≡ rdf_type) }
         ensures alike { IfOk result (λ g. g.alike ≡ alike.items) }
     {
-        let rows = sorted(rows);
-        let forward = Index::from_sorted(alloc, &rows, names)?;
-        let backward = Index::build(alloc, turn(alloc, &rows)?, names)?;
-        let types = types_of_all(alloc, &forward, rdf_type, names)?;
-        Ok(Graph {
-            rows,
-            literal,
-            rdf_type,
-            alike,
-            forward,
-            backward,
-            types,
-        })
+        let sorted = sort_forward(alloc, rows, names, rdf_type)?;
+        let backward = Index::build(alloc, turn(alloc, &sorted.rows)?, names)?;
+        Ok(assembled(sorted, backward, literal, rdf_type, alike))
+    }
+
+    /// Does what `build` does by so many threads, the caller's among them. With 2 or more, one order of the rows is made in a
+    /// new thread, unless there are few rows; where none can be started, the caller's makes both. The graph is the same.
+    pub fn build_in_threads<R: Threads>(
+        rt: &R,
+        alloc: Global,
+        threads: u32,
+        rows: Vec<[u32; 3]>,
+        names: u32,
+        literal: Vec<bool>,
+        rdf_type: Option<u32>,
+        alike: Vec<u32>,
+    ) -> Result<Graph, NoMemory>
+        requires named { All (λ row. All (λ n. n < names) row) rows.items }
+        requires flags { length literal.items ≡ names }
+        requires type_named { ForSome rdf_type (λ p. p < names) }
+        requires folding { IsFolding (record { rows = rows.items; literal = literal.items; rdf_type = rdf_type; alike = alike.items }) }
+        ensures rows { IfOk result (λ g. (row : List ℕ) → Contains g.rows row ↔ Contains rows.items row) }
+        ensures ascending { IfOk result (λ g. IsStrictlySortedBy (slice_cmp nat_cmp) g.rows) }
+        ensures literal { IfOk result (λ g. g.literal ≡ literal.items) }
+        ensures rdf_type { IfOk result (λ g. g.rdf_type ≡ rdf_type) }
+        ensures alike { IfOk result (λ g. g.alike ≡ alike.items) }
+    {
+        if threads < 2 || rows.len() < FEW {
+            return Graph::build(alloc, rows, names, literal, rdf_type, alike);
+        }
+        let (sorted, backward) = both_orders(rt, alloc, rows, names, rdf_type)?;
+        Ok(assembled(sorted, backward, literal, rdf_type, alike))
     }
 
     /// The rows, ascending without repeats: by subject, then predicate, then object.

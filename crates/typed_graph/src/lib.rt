@@ -6,6 +6,7 @@
 //! - `graph`: the graph and its look-ups
 //! - `index`: one sorted order of rows
 //! - `ascending`: look-ups in ascending numbers
+//! - `orders`: the two orders of the rows, one after the other or at once
 //! - `rows`: lists of rows
 //! - `types`: what is kept of each name's types
 #![tactic(auto)]
@@ -13,6 +14,7 @@
 pub mod ascending;
 mod graph;
 mod index;
+mod orders;
 mod rows;
 mod types;
 

@@ -10,7 +10,7 @@ use gk_base::NoMemory;
 use std::alloc::Global;
 
 /// A fact for proofs, with an empty body: each row has three numbers.
-fn three_each(rows: &[[u32; 3]])
+pub(crate) fn three_each(rows: &[[u32; 3]])
     ensures { All (λ row. length row ≡ 3) rows.now }
 {
     let _ = rows;
