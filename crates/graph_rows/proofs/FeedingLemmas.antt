@@ -1,5 +1,5 @@
 -- What was read so far of a graph, and what its reader then has.
-use Rattle.std.proofs.Common.{List, [], ◌++◌, ℕ, ◌+◌, ◌-◌, ◌*◌, ◌^◌, ◌<◌, ◌≤◌, Option, Some, None, IfSome, IsSomeAnd, true, Result, Ok, Err, IsOk, is_ok, IsErrAnd, MatchResult, length, take, ◌≡◌, ◌∙◌, refl, sym, ap, ap₂, subst, arith, append-nil, append_assoc, length-append}
+use Rattle.std.proofs.Common.{List, [], ◌++◌, ℕ, ◌+◌, ◌-◌, ◌*◌, ◌^◌, ◌<◌, ◌≤◌, Option, Some, None, IfSome, IsSomeAnd, Bool, true, false, IsTrue, MatchBool, Result, Ok, Err, IsOk, is_ok, IsErrAnd, MatchResult, length, take, ◌≡◌, ◌∙◌, refl, sym, ap, ap₂, subst, arith, append-nil, append_assoc, length-append}
 use Rattle.std.proofs.lemmas.List.{take-append-drop, take-append-le, nil_from_length}
 use Rattle.gk_base.specs.declared.limits.Limits.{Limits}
 use Rattle.gk_base.specs.declared.read_fault.ReadRefusal.{ReadRefusal}
@@ -16,10 +16,10 @@ use Rattle.gk_io.specs.declared.shelf.Shelf
 use Rattle.nt_reader.specs.File.{FileSays, Refuses, IsOpen}
 use Rattle.nt_reader.specs.Reading.{Front, Reading}
 use Rattle.nt_reader.specs.Kept.{IsStopped, HasCome, HasRead, FinishSays}
-use Rattle.nt_reader.proofs.CallerLemmas.{open_front}
+use Rattle.nt_reader.proofs.CallerLemmas.{open_front, nothing_open}
 use Rattle.graph_rows.specs.Rows.{StandFor, GoOn, LeaveRoom}
 use Rattle.graph_rows.specs.GraphFile.{StopsSoon, GraphStops, StopsAtGraph, GivesRows}
-use Rattle.graph_rows.specs.Feeding.{WereRead, Feeds, FeedsNext, FeedsAll, ReadsBehind}
+use Rattle.graph_rows.specs.Feeding.{WereRead, AreAll, Feeds, FeedsNext, FeedsOn, StaysOpen, FeedsBatch, FeedsAll, ReadsBehind}
 use Rattle.graph_rows.specs.declared.rows.Rows.{Rows}
 use Rattle.graph_rows.proofs.NumberedRows.{names_few}
 use Rattle.graph_rows.proofs.Told.{told_more}
@@ -219,6 +219,132 @@ fed_all shelf old mid new limits room n before after taker Kept Later taken now 
     fed.stand,
   ),
 )
+
+-- before the first batch
+pub fed_none : {K : Type 0} (shelf : Shelf.Ghosts K) (now : K) (reader : Reading) (rows : Rows) → HasRead reader [] [] → HasFed shelf now now reader.limits reader (GoOn rows rows) [] []
+fed_none shelf now reader rows fresh = record {
+  read = were_read_none shelf now;
+  has = fresh;
+  stand = go_on_none rows;
+  same = refl;
+  not_refused = nothing_open reader.limits;
+}
+
+-- ---- a batch
+
+pub feeds_none : {K : Type 0} (shelf : Shelf.Ghosts K) (now : K) (reader : Reading) → FeedsOn shelf now now reader reader []
+feeds_none shelf now reader = record {
+  count = refl;
+  read = were_read_none shelf now;
+  fed = λ taken seen h. subst (HasRead reader taken) (sym (append-nil seen)) h;
+}
+
+pub open_none : (reader : Reading) → StaysOpen reader []
+open_none reader = λ taken seen h unrefused. subst (IsOpen reader.limits) (sym (append-nil seen)) unrefused
+
+module _ {K : Type 0} (shelf : Shelf.Ghosts K) (old mid new : K) (room : ℕ) (first before after : Reading) (gone : List ℕ)
+    (so_far : FeedsOn shelf old mid first before gone) (same : before.limits ≡ first.limits) where
+  -- one piece more
+  pub feeds_more : (piece : List ℕ) → Feeds shelf mid new room before after piece → FeedsOn shelf old new first after (gone ++ piece)
+  feeds_more piece next = record {
+    count = next.count ∙ so_far.count;
+    read = were_read_more shelf old mid new gone piece so_far.read next.read;
+    fed = λ taken seen h. subst (HasRead after taken) (append_assoc seen gone piece) (next.fed taken (seen ++ gone) (so_far.fed taken seen h));
+  }
+
+  pub open_more : (piece : List ℕ) → ((taken : List Triple) (seen : List ℕ) → HasRead before taken seen → IsOpen before.limits (seen ++ piece)) → StaysOpen first (gone ++ piece)
+  open_more piece next = λ taken seen h unrefused. subst (λ l. IsOpen l (seen ++ (gone ++ piece))) same (subst (IsOpen before.limits) (append_assoc seen gone piece) (next taken (seen ++ gone) (so_far.fed taken seen h)))
+
+  -- and none more
+  pub batch_stops : (stop : Stop (FileFault ReadRefusal)) → room ≤ 65536 → after.limits ≡ before.limits → StaysOpen first gone → FeedsNext shelf mid new room before after (Err stop) → FeedsBatch shelf old new first after (Err stop)
+  batch_stops NoMemory few e stays next = next ∙ so_far.count
+  batch_stops (Fault Failed) few e stays next = (subst (λ n. Rose n (shelf.faults new)) so_far.count next.0, next.1)
+  batch_stops (Fault (Refused refusal)) few e stays next =
+      let piece = next.0 in
+      let more = feeds_more piece next.1 in
+      let inside = next.1.within in (
+        gone ++ piece,
+        more,
+        λ taken seen h o. (
+          subst (λ l. Refuses l (seen ++ (gone ++ piece)) refusal) (e ∙ same) (next.2 taken (seen ++ (gone ++ piece)) (more.fed taken seen h)),
+          subst (λ (bytes : List ℕ). (n : ℕ) → n + 65536 ≤ length bytes → IsOpen first.limits (take n bytes)) (append_assoc seen gone piece)
+              (open_before first.limits (seen ++ gone) piece (stays taken seen h o) (omega arith)),
+        ),
+      )
+
+  -- the pieces were all that was left
+  pub batch_ends : (n : ℕ) (next : FeedsNext shelf mid new room before after (Ok n)) → n ≡ 0 → FeedsBatch shelf old new first after (Ok true)
+  batch_ends n next z = (
+    gone ++ next.0,
+    feeds_more next.0 next.1,
+    open_more next.0 next.3,
+    next.5,
+    all_fed (shelf.rest old) (shelf.rest mid) gone next.0 so_far.read (next.6 z) (sym next.2 ∙ z),
+  )
+
+-- what was left is all that was read
+all_read : (before after : Option (List ℕ)) (seen gone : List ℕ) → IfSome before (λ all. IsSomeAnd after (λ r. all ≡ seen ++ r)) → IfSome after (λ r. r ≡ gone) →
+    IfSome before (λ all. all ≡ seen ++ gone)
+all_read None after seen gone h k = tt
+all_read (Some all) None seen gone h k = absurd h
+all_read (Some all) (Some rest) seen gone h k = h ∙ ap (λ r. seen ++ r) k
+
+-- how many bytes a reader may still take, and 1 more before the end of the file
+abbrev pub left_before : Reading → Bool → ℕ
+left_before reader true = left_of reader.limits.bytes reader.so_far
+left_before reader false = left_of reader.limits.bytes reader.so_far + 1
+
+no_more : (limits later : Limits) (before after : Result Front ReadStop) (taken more : List Triple) (seen piece : List ℕ) → later ≡ limits → IsOk before → IsOk after →
+    IsSo (HasCome limits taken seen) before → IsSo (HasCome later more (seen ++ piece)) after → left_of later.bytes after ≤ left_of limits.bytes before
+no_more limits later (Ok b) (Ok a) taken more seen piece same ok still h k =
+    omega (arith, ap (λ (l : Limits). l.bytes) same, h.count, k.count, k.within, length-append seen piece)
+no_more limits later (Err stop) after taken more seen piece same ok still h k = absurd (cc)
+no_more limits later (Ok b) (Err stop) taken more seen piece same ok still h k = absurd (cc)
+
+module _ {K : Type 0} (shelf : Shelf.Ghosts K) (old mid new : K) (limits : Limits) (before after : Reading) (Kept : List Triple → Type 0) (taken : List Triple) (seen : List ℕ)
+    (so_far : HasFed shelf old mid limits before Kept taken seen) (same : after.limits ≡ before.limits) where
+  open_here : IsOpen before.limits seen
+  open_here = subst (λ l. IsOpen l seen) (sym so_far.same) so_far.not_refused
+
+  -- one batch more
+  pub batch_more : (at_end : Bool) (next : FeedsBatch shelf mid new before after (Ok at_end)) → HasFed shelf old new limits after Kept taken (seen ++ next.0)
+  batch_more at_end next = record {
+    read = were_read_more shelf old mid new seen next.0 so_far.read next.1.read;
+    has = next.1.fed taken seen so_far.has;
+    stand = so_far.stand;
+    same = same ∙ so_far.same;
+    not_refused = subst (λ l. IsOpen l (seen ++ next.0)) so_far.same (next.2 taken seen so_far.has open_here);
+  }
+
+  pub batch_all : (at_end : Bool) (next : FeedsBatch shelf mid new before after (Ok at_end)) → IsTrue at_end → AreAll shelf old (seen ++ next.0)
+  batch_all true next ended = all_read (shelf.rest old) (shelf.rest mid) seen next.0 so_far.read next.4
+  batch_all false next ended = absurd (cc)
+
+  -- the file is not read on
+  pub batch_no_more : shelf.faults mid ≡ shelf.faults old → (stop : Stop (FileFault ReadRefusal)) (Left : List Triple → Type 0) → FeedsBatch shelf mid new before after (Err stop) →
+      FeedsAll {A = Unit {0}} shelf old new limits after Left (Err stop)
+  batch_no_more count NoMemory Left next = next ∙ count
+  batch_no_more count (Fault Failed) Left next = (subst (λ n. Rose n (shelf.faults new)) count next.0, next.1)
+  batch_no_more count (Fault (Refused refusal)) Left next =
+      let r = next.2 taken seen so_far.has open_here in (
+        next.1.count ∙ count,
+        (
+          seen ++ next.0,
+          were_read_more shelf old mid new seen next.0 so_far.read next.1.read,
+          subst (λ l. Refuses l (seen ++ next.0) refusal) so_far.same r.0,
+          λ n long. subst (λ l. IsOpen l (take n (seen ++ next.0))) so_far.same (r.1 n long),
+        ),
+      )
+
+-- after a batch a reader may take fewer bytes, or the file is at its end
+pub batch_smaller : (before after : Reading) (taken more : List Triple) (seen gone : List ℕ) (End : Type 0) (at_end : Bool) → after.limits ≡ before.limits → IsOk before.so_far → IsOk after.so_far →
+    HasRead before taken seen → HasRead after more (seen ++ gone) → MatchBool at_end End (0 < length gone) → left_before after at_end < left_before before false
+batch_smaller before after taken more seen gone End true same ok still h k ended =
+    let a = no_more before.limits after.limits before.so_far after.so_far taken more seen gone same ok still h k in
+    omega arith
+batch_smaller before after taken more seen gone End false same ok still h k ended =
+    let a = fewer_left before after taken more seen gone same ok still h k ended in
+    omega arith
 
 -- ---- the whole file
 

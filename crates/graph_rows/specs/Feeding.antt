@@ -1,5 +1,5 @@
 -- What the private functions answer that read a file piece by piece: this project's own words.
-use Rattle.std.specs.Prelude.{List, [], ℕ, ◌≡◌, ◌≤◌, ◌+◌, ◌++◌, length, take, Result, Ok, Err, IsOk, IfSome, IsSomeAnd, IsTrue}
+use Rattle.std.specs.Prelude.{List, [], ℕ, ◌≡◌, ◌≤◌, ◌+◌, ◌++◌, length, take, Result, Ok, Err, IsOk, IfSome, IsSomeAnd, IsTrue, Bool, MatchBool, ◌<◌}
 use Rattle.gk_base.specs.declared.limits.Limits.{Limits}
 use Rattle.gk_base.specs.declared.read_fault.ReadRefusal.{ReadRefusal}
 use Rattle.gk_base.specs.declared.stop.Stop.{Stop}
@@ -51,6 +51,27 @@ FeedsNext shelf before after room reader fed_reader (Err NoMemory) = shelf.fault
 FeedsNext shelf before after room reader fed_reader (Err (Fault Failed)) = ShelfFails shelf before after
 FeedsNext shelf before after room reader fed_reader (Err (Fault (Refused refusal))) = (piece : List ℕ) × Feeds shelf before after room reader fed_reader piece
     × ((taken : List Triple) (bytes : List ℕ) → HasRead fed_reader taken bytes → Refuses fed_reader.limits bytes refusal)
+
+-- these bytes were read and fed to a reader
+pub record FeedsOn {K : Type 0} (shelf : Shelf.Ghosts K) (before after : K) (reader fed_reader : Reading) (gone : List ℕ) : Type 0 where
+  pub count : shelf.faults after ≡ shelf.faults before
+  pub read : WereRead shelf before after gone
+  pub fed : (taken : List Triple) (seen : List ℕ) → HasRead reader taken seen → HasRead fed_reader taken (seen ++ gone)
+
+-- what was not refused is not yet with these bytes behind it
+abbrev pub StaysOpen : Reading → List ℕ → Type 0
+StaysOpen reader gone = (taken : List Triple) (seen : List ℕ) → HasRead reader taken seen → IsOpen reader.limits seen → IsOpen reader.limits (seen ++ gone)
+
+-- Some pieces were read and fed, of which none is refused, and whether they were all that was left; or why not. Where a piece
+-- is refused, it is the last, and none before it is.
+abbrev pub FeedsBatch : {K : Type 0} (shelf : Shelf.Ghosts K) (before after : K) (reader fed_reader : Reading) → Result Bool (Stop (FileFault ReadRefusal)) → Type 0
+FeedsBatch shelf before after reader fed_reader (Ok at_end) = (gone : List ℕ) × FeedsOn shelf before after reader fed_reader gone
+    × StaysOpen reader gone × IsOk fed_reader.so_far × MatchBool at_end (AreAll shelf before gone) (0 < length gone)
+FeedsBatch shelf before after reader fed_reader (Err NoMemory) = shelf.faults after ≡ shelf.faults before
+FeedsBatch shelf before after reader fed_reader (Err (Fault Failed)) = ShelfFails shelf before after
+FeedsBatch shelf before after reader fed_reader (Err (Fault (Refused refusal))) = (gone : List ℕ) × FeedsOn shelf before after reader fed_reader gone
+    × ((taken : List Triple) (seen : List ℕ) → HasRead reader taken seen → IsOpen reader.limits seen →
+        Refuses reader.limits (seen ++ gone) refusal × ((n : ℕ) → n + 65536 ≤ length (seen ++ gone) → IsOpen reader.limits (take n (seen ++ gone))))
 
 -- all that was left was read and fed, and what is said of the triples that were taken holds; or why not
 abbrev pub FeedsAll : {K A : Type 0} (shelf : Shelf.Ghosts K) (before after : K) (limits : Limits) (fed_reader : Reading) (Kept : List Triple → Type 0) → Result A (Stop (FileFault ReadRefusal)) → Type 0

@@ -5,10 +5,12 @@
 //! - `loading`: the first bytes of a file
 //! - `rows`: triples in numbers
 //! - `pieces`: a graph's rows, read piece by piece
+//! - `batches`: reading and numbering at once, in two threads
 //! - `numbering`: names, graph and patterns in numbers
 //! - `growth`: names, two graphs of which the second has all rows of the first, and patterns in numbers
 #![tactic(auto)]
 
+mod batches;
 mod growth;
 mod loading;
 mod numbering;

@@ -1,21 +1,23 @@
 //! A graph, read piece by piece: from a shelf's file to rows and names, numbered as they come; or what stopped it.
 
-ghost use Rattle.std.specs.Prelude.{◌≡◌, ◌+◌, ◌<◌, ◌≤◌, ◌^◌, [], length};
+ghost use Rattle.std.specs.Prelude.{◌≡◌, ◌+◌, ◌<◌, ◌≤◌, ◌^◌, [], length, vec_len, IsOk};
 ghost use Rattle.nt_reader.specs.Kept.{HasRead};
 ghost use Rattle.graph_rows.specs.Rows.{GoOn, LeaveRoom};
 ghost use Rattle.graph_rows.specs.GraphFile.{GivesRows, GivesMoreRows};
 ghost use Rattle.graph_rows.specs.Feeding.{FeedsNext, FeedsAll, ReadsBehind};
 
+use crate::batches::feed_in_batches;
 use crate::loading::buffer;
 use crate::rows::Rows;
 use gk_base::{Limits, ReadRefusal, Text};
 use gk_io::{FileStop, Shelf, file_stop};
 use nt_reader::Reader;
 use std::alloc::Global;
+use std::thread::Threads;
 use term_list::Triples;
 
 /// Reads the next piece and feeds it, and answers how many bytes it has: none only at the end.
-fn feed_next<S: Shelf>(
+pub(crate) fn feed_next<S: Shelf>(
     shelf: &mut S,
     buf: &mut [u8],
     reader: &mut Reader,
@@ -69,9 +71,40 @@ fn feed_all<S: Shelf>(
     }
 }
 
+/// Reads on to the end of the file, and numbers the triples behind those that are there: beside each other where two threads
+/// may be used, and else by turns.
+fn feed_file<S: Shelf, R: Threads>(
+    rt: &R,
+    threads: u32,
+    shelf: &mut S,
+    buf: &mut Vec<u8>,
+    reader: &mut Reader,
+    triples: &mut Triples,
+    rows: &mut Rows,
+) -> Result<(), FileStop<ReadRefusal>>
+    requires some { 0 < vec_len buf.old }
+    requires few { vec_len buf.old ≤ 65536 }
+    requires room { LeaveRoom rows.old reader.old.limits.triples }
+    requires fresh { HasRead reader.old [] [] }
+    requires running { IsOk reader.old.so_far }
+    requires none { triples.old ≡ [] }
+    ensures held { S.held shelf.new ≡ S.held shelf.old }
+    ensures asked { S.asked shelf.new ≡ S.asked shelf.old }
+    ensures limits { reader.new.limits ≡ reader.old.limits }
+    ensures feeds { FeedsAll S.Shelf shelf.old shelf.new reader.old.limits reader.new (GoOn rows.old rows.new) result }
+{
+    if threads > 1 {
+        feed_in_batches(rt, shelf, buf, reader, triples, rows)
+    } else {
+        feed_all(shelf, buf, reader, triples, rows)
+    }
+}
+
 /// Finds the file of this name, reads it to its end, and numbers its triples behind those that are there.
-fn read_behind<S: Shelf>(
+fn read_behind<S: Shelf, R: Threads>(
+    rt: &R,
     alloc: Global,
+    threads: u32,
     shelf: &mut S,
     name: &Text,
     limits: &Limits,
@@ -87,7 +120,15 @@ fn read_behind<S: Shelf>(
     let mut reader = Reader::new(alloc, limits);
     rows.expect(shelf.size_hint());
     let mut triples = Triples::new(alloc);
-    feed_all(shelf, &mut buf, &mut reader, &mut triples, rows)?;
+    feed_file(
+        rt,
+        threads,
+        shelf,
+        &mut buf,
+        &mut reader,
+        &mut triples,
+        rows,
+    )?;
     let mut last = reader.finish().map_err(file_stop)?;
     rows.add(&mut last)?;
     Ok(())
@@ -96,11 +137,17 @@ fn read_behind<S: Shelf>(
 /// The rows and names of the graph of this name. The file is read piece by piece, and no further once it is refused: of the
 /// limits, those of bytes and of triples count.
 ///
+/// `threads` says how many threads may be used, the caller's among them. With 2 or more, a second one numbers the triples of
+/// some pieces while the caller's reads and judges the next ones; with fewer, all is done on the caller's. The answer, and how
+/// far the file is read where it is refused, are the same.
+///
 /// - `NoMemory` may come at any time, and says nothing of the file.
 /// - `FileFault::Failed`: the shelf could not find the file, or could not read it to its end.
 /// - `FileFault::Refused`: the first line that is faulty or beyond a limit, and why.
-pub fn read_rows<S: Shelf>(
+pub fn read_rows<S: Shelf, R: Threads>(
+    rt: &R,
     alloc: Global,
+    threads: u32,
     shelf: &mut S,
     name: &Text,
     limits: &Limits,
@@ -111,7 +158,7 @@ pub fn read_rows<S: Shelf>(
     ensures gives { GivesRows S.Shelf shelf.old shelf.new limits.now name.now result }
 {
     let mut rows = Rows::new(alloc, shelf.hash_seed());
-    read_behind(alloc, shelf, name, limits, &mut rows)?;
+    read_behind(rt, alloc, threads, shelf, name, limits, &mut rows)?;
     Ok(rows)
 }
 
@@ -120,8 +167,10 @@ pub fn read_rows<S: Shelf>(
 /// that are there they may be no more than a graph may have.
 ///
 /// What stops it is what stops `read_rows`, and the rows that were there are gone then.
-pub fn read_more_rows<S: Shelf>(
+pub fn read_more_rows<S: Shelf, R: Threads>(
+    rt: &R,
     alloc: Global,
+    threads: u32,
     shelf: &mut S,
     name: &Text,
     limits: &Limits,
@@ -134,6 +183,6 @@ pub fn read_more_rows<S: Shelf>(
 {
     let first = rows.rows.len();
     let mut rows = rows;
-    read_behind(alloc, shelf, name, limits, &mut rows)?;
+    read_behind(rt, alloc, threads, shelf, name, limits, &mut rows)?;
     Ok(MoreRows { rows, first })
 }

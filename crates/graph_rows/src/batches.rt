@@ -1,0 +1,109 @@
+//! Reading and numbering at once: while the triples of one batch of pieces are numbered in a second thread, the pieces of the
+//! next are read and judged in the caller's.
+
+ghost use Rattle.std.specs.Prelude.{◌≡◌, ◌+◌, ◌*◌, ◌<◌, ◌≤◌, ◌^◌, ◌++◌, [], List, length, vec_len, IsOk, OnOk};
+ghost use Rattle.gk_base.specs.declared.term.Triple.{Triple as AnyTriple};
+ghost use Rattle.nt_reader.specs.Kept.{HasRead};
+ghost use Rattle.graph_rows.specs.Rows.{StandFor, GoOn, LeaveRoom};
+ghost use Rattle.graph_rows.specs.Feeding.{FeedsBatch, FeedsAll};
+
+use crate::pieces::feed_next;
+use crate::rows::Rows;
+use gk_base::ReadRefusal;
+use gk_io::{FileStop, Shelf};
+use nt_reader::Reader;
+use std::thread::{Threads, join_mut};
+use term_list::Triples;
+
+/// A batch ends with the piece that makes it so many bytes. Each batch but the last costs the start of a thread.
+const BATCH: usize = 524_288;
+
+/// Reads and feeds the pieces of a batch, or those that are left, and answers whether the file is at its end.
+fn feed_batch<S: Shelf>(
+    shelf: &mut S,
+    buf: &mut Vec<u8>,
+    reader: &mut Reader,
+) -> Result<bool, FileStop<ReadRefusal>>
+    requires some { 0 < vec_len buf.old }
+    requires few { vec_len buf.old ≤ 65536 }
+    requires running { IsOk reader.old.so_far }
+    ensures room { vec_len buf.new ≡ vec_len buf.old }
+    ensures held { S.held shelf.new ≡ S.held shelf.old }
+    ensures asked { S.asked shelf.new ≡ S.asked shelf.old }
+    ensures limits { reader.new.limits ≡ reader.old.limits }
+    ensures feeds { FeedsBatch S.Shelf shelf.old shelf.new reader.old reader.new result }
+{
+    let mut bytes = 0;
+    'pieces: while bytes < BATCH {
+        let count = feed_next(shelf, buf, reader)?;
+        if count == 0 {
+            return Ok(true);
+        }
+        bytes += count;
+    }
+    Ok(false)
+}
+
+/// Numbers these triples, behind those that came before, while the next batch is read and fed. It leaves the list empty, and
+/// answers whether the file is at its end. What stops the reading is the answer, whatever became of the numbering.
+fn number_and_feed<S: Shelf, R: Threads>(
+    rt: &R,
+    shelf: &mut S,
+    buf: &mut Vec<u8>,
+    reader: &mut Reader,
+    triples: &mut Triples,
+    rows: &mut Rows,
+) -> Result<bool, FileStop<ReadRefusal>>
+    requires some { 0 < vec_len buf.old }
+    requires few { vec_len buf.old ≤ 65536 }
+    requires running { IsOk reader.old.so_far }
+    requires names { length rows.old.names + 3 * length triples.old < 2 ^ 32 }
+    ensures room { vec_len buf.new ≡ vec_len buf.old }
+    ensures held { S.held shelf.new ≡ S.held shelf.old }
+    ensures asked { S.asked shelf.new ≡ S.asked shelf.old }
+    ensures limits { reader.new.limits ≡ reader.old.limits }
+    ensures feeds { FeedsBatch S.Shelf shelf.old shelf.new reader.old reader.new result }
+    ensures empty { OnOk result (triples.new ≡ []) }
+    ensures stand { OnOk result ((before : List AnyTriple) → StandFor rows.old before → StandFor rows.new (before ++ triples.old)) }
+{
+    let (numbered, fed) = join_mut(
+        rt,
+        &mut || rows.add(triples),
+        &mut || feed_batch(shelf, buf, reader),
+    );
+    let at_end = fed?;
+    numbered?;
+    Ok(at_end)
+}
+
+/// Reads on to the end of the file. The triples that a batch ends are numbered, behind those that are there, while the next
+/// batch is read. So each lies in one of two lists, that of the reader or this one, which change places between two batches.
+pub(crate) fn feed_in_batches<S: Shelf, R: Threads>(
+    rt: &R,
+    shelf: &mut S,
+    buf: &mut Vec<u8>,
+    reader: &mut Reader,
+    triples: &mut Triples,
+    rows: &mut Rows,
+) -> Result<(), FileStop<ReadRefusal>>
+    requires some { 0 < vec_len buf.old }
+    requires few { vec_len buf.old ≤ 65536 }
+    requires room { LeaveRoom rows.old reader.old.limits.triples }
+    requires fresh { HasRead reader.old [] [] }
+    requires running { IsOk reader.old.so_far }
+    requires none { triples.old ≡ [] }
+    ensures held { S.held shelf.new ≡ S.held shelf.old }
+    ensures asked { S.asked shelf.new ≡ S.asked shelf.old }
+    ensures limits { reader.new.limits ≡ reader.old.limits }
+    ensures feeds { FeedsAll S.Shelf shelf.old shelf.new reader.old.limits reader.new (GoOn rows.old rows.new) result }
+{
+    let mut at_end = feed_batch(shelf, buf, reader)?;
+    'batches: loop {
+        reader.take_triples(triples);
+        if at_end {
+            rows.add(triples)?;
+            return Ok(());
+        }
+        at_end = number_and_feed(rt, shelf, buf, reader, triples, rows)?;
+    }
+}
