@@ -12,6 +12,7 @@ use chase_laws::Pattern;
 use gk_base::NoMemory;
 use key_lang::{KeyFile, compile};
 use std::alloc::Global;
+use std::thread::Threads;
 use term_table::Names;
 use typed_graph::Graph;
 
@@ -30,9 +31,12 @@ pub struct Growth {
 }
 
 /// The graph of the first so many of these rows, the graph of all of them, and the keys' patterns, in numbers over the same
-/// names. The keys' terms that are no names yet become names behind the others. Only want of memory stops it.
-pub fn number_growth(
+/// names. The keys' terms that are no names yet become names behind the others. `threads` says how many threads may be used, the
+/// caller's among them; the answer is the same. Only want of memory stops it.
+pub fn number_growth<R: Threads>(
+    rt: &R,
     alloc: Global,
+    threads: u32,
     rows: Rows,
     first: usize,
     keys: &KeyFile,
@@ -53,8 +57,9 @@ pub fn number_growth(
     let flags = Vec::from_slice(alloc, &literal)?;
     let numbers = Vec::from_slice(alloc, &alike)?;
     let count = names.len();
-    let first = Graph::build(alloc, front, count, flags, rdf_type, numbers)?;
-    let both = Graph::build(alloc, rows, count, literal, rdf_type, alike)?;
+    let first =
+        Graph::build_in_threads(rt, alloc, threads, front, count, flags, rdf_type, numbers)?;
+    let both = Graph::build_in_threads(rt, alloc, threads, rows, count, literal, rdf_type, alike)?;
     Ok(Growth {
         names,
         first,

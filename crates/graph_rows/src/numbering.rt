@@ -15,6 +15,7 @@ use chase_laws::{Pattern, Slot};
 use gk_base::{NoMemory, Term, Text};
 use key_lang::{KeyFile, compile};
 use std::alloc::Global;
+use std::thread::Threads;
 use term_table::Names;
 use typed_graph::Graph;
 
@@ -110,8 +111,15 @@ pub(crate) fn alike_for(
 }
 
 /// The graph of these rows and the keys' patterns, in numbers. The keys' terms that are no names yet become names behind the
-/// others. Only want of memory stops it.
-pub fn number(alloc: Global, rows: Rows, keys: &KeyFile) -> Result<Numbered, NoMemory>
+/// others. `threads` says how many threads may be used, the caller's among them; the answer is the same. Only want of memory
+/// stops it.
+pub fn number<R: Threads>(
+    rt: &R,
+    alloc: Global,
+    threads: u32,
+    rows: Rows,
+    keys: &KeyFile,
+) -> Result<Numbered, NoMemory>
     requires few { AreFew rows }
     ensures numbered { IfOk result (λ n. (triples : List AnyTriple) → StandFor rows triples → IsNumbered n triples keys.now) }
     ensures few_patterns { IfOk result (λ n. length n.patterns.items < 2 ^ 32) }
@@ -122,7 +130,8 @@ pub fn number(alloc: Global, rows: Rows, keys: &KeyFile) -> Result<Numbered, NoM
     let literal = literal_flags(alloc, &names)?;
     let rdf_type = type_number(alloc, &names)?;
     let alike = alike_for(alloc, &names, &patterns)?;
-    let graph = Graph::build(alloc, rows, names.len(), literal, rdf_type, alike)?;
+    let count = names.len();
+    let graph = Graph::build_in_threads(rt, alloc, threads, rows, count, literal, rdf_type, alike)?;
     Ok(Numbered {
         names,
         graph,
