@@ -1,3 +1,4 @@
+mod Entered
 mod HintMoves
 mod Jobs
 mod Passes

@@ -1,15 +1,16 @@
 -- Passes for stealing, in order.
-use Rattle.std.proofs.Common.{Global, List, [], ◌∷◌, ◌++◌, ℕ, zero, suc, Some, length, get_or, slice_get, ◌≡◌, ◌<◌, sym, subst, ap, ◌∙◌, Vec}
+use Rattle.std.proofs.Common.{Global, List, [], ◌∷◌, ◌++◌, ℕ, zero, suc, Some, length, get_or, slice_get, ◌≡◌, ◌<◌, ◌≤◌, sym, subst, ap, ◌∙◌, Vec}
 use Rattle.std.proofs.lemmas.List.{length-map}
 use Rattle.std.specs.List.{All}
 use Rattle.std.specs.Option.{option_map}
 use Rattle.std.proofs.lemmas.Option.{slice_get-map, slice_get-get_or}
 use Rattle.atomic_blocks.specs.Lent.{RowsId}
 use Rattle.crossbeam_deque.specs.Handles.{view, IsPassOf, stealer_deque, worker_deque}
+use Rattle.label_board.specs.Seen.{SeenBoard}
 use Rattle.steal_pool.specs.Hints.{bounded_by}
 use Rattle.steal_pool.specs.declared.workspace.StealPass.{StealPass}
 use Rattle.steal_pool.specs.declared.workspace.Workspace.{Workspace}
-use Rattle.steal_pool.specs.Workspaces.{Thief, HintDeque, thief_ids, deque_ids, ReachFirst, ReachAll, ReachEach, IsOwnDeque, HasRoom, IsWorkspace}
+use Rattle.steal_pool.specs.Workspaces.{Thief, HintDeque, thief_ids, deque_ids, ReachFirst, ReachAll, ReachEach, IsOwnDeque, IsPlace, IsWorkspace}
 
 some_same : {A : Type 0} (x y : A) → Some x ≡ Some y → x ≡ y
 some_same x y e = cc
@@ -45,13 +46,14 @@ reach_more n k ids deques passes p w same within count pass knows reach = λ j i
     j e there i at
 
 -- what a workspace is made of
-pub workspace_made : (n m widest : ℕ) (thieves : List Thief) (workspace : Workspace) (own : HintDeque) (passes : Vec StealPass Global)
-    → n ≡ m → workspace.count ≡ m → workspace.own ≡ own → workspace.steal_passes ≡ passes → workspace.pending.items ≡ [] → All (HasRoom widest) workspace.jobs.items
-    → IsOwnDeque n own → ReachAll n (thief_ids thieves) passes.items → IsWorkspace m widest thieves workspace
-workspace_made n m widest thieves workspace own passes same count is_own are_passes none rooms deque reach = record {
+pub workspace_made : (n m widest : ℕ) (on : SeenBoard) (thieves : List Thief) (workspace : Workspace) (own : HintDeque) (passes : Vec StealPass Global)
+    → n ≡ m → workspace.count ≡ m → workspace.own ≡ own → workspace.steal_passes ≡ passes → workspace.pending.items ≡ [] → All (IsPlace widest on) workspace.jobs.items → widest ≤ workspace.spare.room
+    → IsOwnDeque n own → ReachAll n (thief_ids thieves) passes.items → IsWorkspace m widest on thieves workspace
+workspace_made n m widest on thieves workspace own passes same count is_own are_passes none places spare deque reach = record {
   count = count;
   own = subst (λ (k : ℕ). IsOwnDeque k workspace.own) same (subst (IsOwnDeque n) (sym is_own) deque);
   passes = subst (λ (k : ℕ). ReachEach k thieves workspace.steal_passes.items) same (subst (λ (ps : Vec StealPass Global). ReachEach n thieves ps.items) (sym are_passes) (reach_each n thieves passes.items reach));
   pending = subst (All (λ p. p < m)) (sym none) (λ k d l. absurd (omega Rattle.std.proofs.Common.arith));
-  rooms = rooms;
+  places = places;
+  spare = spare;
 }

@@ -1,14 +1,13 @@
 -- What a worker has in hand between its turns, and what becomes of it.
-use Rattle.std.specs.Prelude.{List, ℕ, Option, Some, None, ◌≡◌}
+use Rattle.std.specs.Prelude.{List, ℕ, Option, Some, None, length, ◌≡◌, ◌≤◌}
 use Rattle.std.specs.List.{All}
 use Rattle.chase_laws.specs.declared.entry.Entry.{Entry}
-use Rattle.chase_laws.specs.Core.{Task}
-use Rattle.chase_core.specs.Setup.{Preparation}
+use Rattle.chase_laws.specs.Core.{Task, PairAt, ListsNear}
 use Rattle.chase_core.specs.Running.{Running}
-use Rattle.chase_core.specs.Holding.{IsHeld}
 use Rattle.chase_core.specs.Settling.{IsFoundBy, Settles}
 use Rattle.chase_core.specs.declared.ticket.Outcome.{Outcome}
 use Rattle.chase_core.specs.declared.ticket.Settled.{Settled}
+use Rattle.label_board.specs.Seen.{SeenBoard}
 use Rattle.turn_lock.specs.declared.handles.TurnLock.{TurnLock}
 use Rattle.turn_lock.specs.Handles.{base_of, seen}
 use Rattle.steal_pool.specs.declared.workspace.Job.{Job}
@@ -17,7 +16,8 @@ use Rattle.steal_pool.specs.declared.workspace.Progress.TheVariants as progress
 use Rattle.steal_pool.specs.declared.crew_member.CrewMember.{CrewMember}
 use Rattle.steal_pool.specs.declared.shared.Shared.{Shared}
 use Rattle.steal_pool.specs.Workspaces.{Thief}
-use Rattle.steal_pool.specs.CrewMembers.{IsCrewMember, pair_count, widest_of}
+use Rattle.steal_pool.specs.Bases.{Base, pair_count, widest_of, board_of}
+use Rattle.steal_pool.specs.CrewMembers.{IsCrewMember}
 
 -- the pair that a job has, if any
 abbrev pub pair_in : Progress → Option ℕ
@@ -31,14 +31,17 @@ IsSearched progress.Free = ⊥
 IsSearched (progress.Taken t) = ⊥
 IsSearched (progress.Searched t found) = Unit {0}
 
--- a pair that was taken is held with its view since these entries were seen, and what is said of a search is what one comes to
-abbrev pub IsCarried : Task → List Entry → List (ℕ × ℕ) → Progress → Type 0
-IsCarried T seen view progress.Free = Unit {0}
-IsCarried T seen view (progress.Taken t) = IsHeld T seen t view
-IsCarried T seen view (progress.Searched t found) = IsHeld T seen t view × IsFoundBy T t view found
+-- A pair that was taken has these ends. What is said of its search is what one comes to by a view of what is near to them,
+-- with the labels that the job's watcher has read. There are as many entries by now as there were at the take.
+abbrev pub IsCarried : Task → List Entry → Job → Progress → Type 0
+IsCarried T seen job progress.Free = Unit {0}
+IsCarried T seen job (progress.Taken t) = PairAt T t.pair t.a t.b × (job.since ≤ length seen)
+IsCarried T seen job (progress.Searched t found) =
+    PairAt T t.pair t.a t.b × (job.since ≤ length seen)
+    × ListsNear T t.a t.b job.view.pairs × (job.watcher.read ≡ job.view.pairs) × IsFoundBy T t job.view.pairs found
 
 abbrev pub IsJob : Task → List Entry → Job → Type 0
-IsJob T seen job = IsCarried T seen job.view.pairs job.progress
+IsJob T seen job = IsCarried T seen job job.progress
 
 -- what was searched is settled, and nothing else changes
 abbrev pub SettlesBy : Running → List (ℕ × ℕ) → Progress → Running → Progress → Type 0
@@ -53,6 +56,6 @@ SearchesBy T view (progress.Taken t) after = (found : Outcome) × (after ≡ pro
 SearchesBy T view (progress.Searched t found) after = after ≡ progress.Searched t found
 
 -- a worker that may go on, and whose jobs are good since its last turn
-pub record IsAtWork (lock : TurnLock Shared Preparation Entry) (thieves : List Thief) (m : CrewMember Shared Preparation Entry) : Type 0 where
-  pub member : IsCrewMember pair_count widest_of lock thieves m
-  pub jobs : (S : Preparation) → base_of m.pass ≡ Some S → All (IsJob S.task (seen m.pass)) m.workspace.jobs.items
+pub record IsAtWork (lock : TurnLock Shared Base Entry) (on : SeenBoard) (thieves : List Thief) (m : CrewMember Shared Base Entry) : Type 0 where
+  pub member : IsCrewMember pair_count widest_of board_of lock on thieves m
+  pub jobs : (B : Base) → base_of m.pass ≡ Some B → All (IsJob B.0.task (seen m.pass)) m.workspace.jobs.items

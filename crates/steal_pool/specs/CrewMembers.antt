@@ -1,28 +1,21 @@
 -- A worker that may go on.
-use Rattle.std.specs.Prelude.{◌≡◌, ℕ, List, length, Some}
+use Rattle.std.specs.Prelude.{◌≡◌, ℕ, List, Some}
 use Rattle.std.specs.List.{All}
 use Rattle.turn_lock.specs.declared.handles.Pass.{Pass}
 use Rattle.turn_lock.specs.declared.handles.TurnLock.{TurnLock}
 use Rattle.turn_lock.specs.Handles.{IsPassOf, IsOut, base_of}
-use Rattle.chase_core.specs.Setup.{Preparation}
+use Rattle.label_board.specs.Seen.{SeenBoard}
 use Rattle.steal_pool.specs.Workspaces.{Thief, IsWorkspace}
 use Rattle.steal_pool.specs.declared.crew_member.CrewMember.{CrewMember}
 
--- its pass is one of the lock's and has no turn, and its workspace is for the value's base
-pub record IsCrewMember {T B I : Type 0} (pairs widest : B → ℕ) (lock : TurnLock T B I) (thieves : List Thief) (m : CrewMember T B I) : Type 0 where
+-- its pass is one of the lock's and has no turn, the board is that of the value's base, and its workspace is for that base
+pub record IsCrewMember {T B I : Type 0} (pairs widest : B → ℕ) (board : B → SeenBoard) (lock : TurnLock T B I) (on : SeenBoard) (thieves : List Thief) (m : CrewMember T B I) : Type 0 where
   pub pass : IsPassOf lock m.pass
   pub out : IsOut m.pass
   pub base : B
   pub based : base_of m.pass ≡ Some base
-  pub workspace : IsWorkspace (pairs base) (widest base) thieves m.workspace
-
--- how many pairs a setup has
-abbrev pub pair_count : Preparation → ℕ
-pair_count S = length S.task.pairs
-
--- the room that a view needs
-abbrev pub widest_of : Preparation → ℕ
-widest_of S = S.widest
+  pub posts : board base ≡ on
+  pub workspace : IsWorkspace (pairs base) (widest base) on thieves m.workspace
 
 -- these are passes of the lock, none has a turn, and they have this base
 abbrev pub AllOutWith : {T B I : Type 0} → TurnLock T B I → B → List (Pass T B I) → Type 0

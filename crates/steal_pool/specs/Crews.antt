@@ -11,7 +11,9 @@ use Rattle.turn_lock.specs.Handles.{seats_of}
 use Rattle.steal_pool.specs.declared.crew_member.CrewMember.{CrewMember}
 use Rattle.steal_pool.specs.declared.shared.Shared.{Shared}
 use Rattle.steal_pool.specs.Workspaces.{Thief}
-use Rattle.steal_pool.specs.CrewMembers.{IsCrewMember, pair_count, widest_of}
+use Rattle.label_board.specs.Seen.{SeenBoard}
+use Rattle.steal_pool.specs.Bases.{Base, pair_count, widest_of, board_of}
+use Rattle.steal_pool.specs.CrewMembers.{IsCrewMember}
 
 -- the setup and the journal of the chase that a crew has, and how many workers there are
 pub record CrewContents : Type 0 where
@@ -20,10 +22,10 @@ pub record CrewContents : Type 0 where
   pub workers : ℕ
 
 -- there is a worker for each seat of the lock, each may go on, and there is room for their passes
-pub record IsCrew (lock : TurnLock Shared Preparation Entry) (thieves : List Thief) (members : List (CrewMember Shared Preparation Entry)) (home : Vec (Pass Shared Preparation Entry) Global) : Type 0 where
+pub record IsCrew (lock : TurnLock Shared Base Entry) (on : SeenBoard) (thieves : List Thief) (members : List (CrewMember Shared Base Entry)) (home : Vec (Pass Shared Base Entry) Global) : Type 0 where
   pub some_seat : 0 < seats_of lock
   pub few : seats_of lock ≤ 64
   pub seats : length members ≡ seats_of lock
   pub empty : vec_len home ≡ 0
   pub room : length members ≤ vec_capacity home
-  pub each : All (IsCrewMember pair_count widest_of lock thieves) members
+  pub each : All (IsCrewMember pair_count widest_of board_of lock on thieves) members

@@ -6,6 +6,7 @@ use Rattle.crossbeam_deque.specs.Handles.{view, IsPassOf, stealer_deque, worker_
 use Rattle.crossbeam_deque.specs.declared.handles.Stealer.{Stealer}
 use Rattle.crossbeam_deque.specs.declared.handles.Worker.{Worker}
 use Rattle.atomic_blocks.specs.Lent.{RowsId}
+use Rattle.label_board.specs.Seen.{SeenBoard}
 use Rattle.steal_pool.specs.declared.hint_rule.Bound.{Bound}
 use Rattle.steal_pool.specs.declared.hint_rule.HintRule.{HintRule}
 use Rattle.steal_pool.specs.Hints.{bounded_by}
@@ -44,14 +45,16 @@ pub record IsOwnDeque (n : ℕ) (w : HintDeque) : Type 0 where
   pub bound : worker_view w ≡ bounded_by n
   pub lifo : worker_flavor w ≡ 1
 
--- there is room for a view of so many names
-abbrev pub HasRoom : ℕ → Job → Type 0
-HasRoom widest job = widest ≤ job.view.room
+-- a job's view has room for so many names, and its watcher is one of the board's
+pub record IsPlace (widest : ℕ) (on : SeenBoard) (job : Job) : Type 0 where
+  pub room : widest ≤ job.view.room
+  pub watches : job.watcher.board ≡ on.id
 
--- the hints that a worker has or can steal are below the number of pairs, and its views have room
-pub record IsWorkspace (n widest : ℕ) (thieves : List Thief) (w : Workspace) : Type 0 where
+-- the hints that a worker has or can steal are below the number of pairs, its views have room, and its watchers are the board's
+pub record IsWorkspace (n widest : ℕ) (on : SeenBoard) (thieves : List Thief) (w : Workspace) : Type 0 where
   pub count : w.count ≡ n
   pub own : IsOwnDeque n w.own
   pub passes : ReachEach n thieves w.steal_passes.items
   pub pending : All (λ p. p < n) w.pending.items
-  pub rooms : All (HasRoom widest) w.jobs.items
+  pub places : All (IsPlace widest on) w.jobs.items
+  pub spare : widest ≤ w.spare.room

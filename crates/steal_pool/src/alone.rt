@@ -2,13 +2,15 @@
 
 ghost use Rattle.std.specs.Prelude.{◌≡◌, ◌<◌, ◌++◌, [], ℕ, List, All, IsTrue, length};
 ghost use Rattle.chase_laws.specs.declared.entry.Entry.{Entry};
+ghost use Rattle.chase_laws.specs.Core.{PairAt};
+ghost use Rattle.chase_laws.specs.Joined.{Joined};
+ghost use Rattle.chase_core.specs.Present.{SettlesPresent};
 
 use crate::deques::DEALT;
 use crate::gate::Gate;
 use crate::hunt::keep_woken;
-use crate::shared::Shared;
 use crate::workspace::Workspace;
-use chase_core::{Chase, Woken};
+use chase_core::{Chase, Settled, Ticket, Woken};
 use std::sync::Wait;
 
 /// The first pairs as hints, in ascending order. What there is no memory for is let go.
@@ -21,27 +23,41 @@ fn deal_alone(hints: &mut Vec<u32>, count: u32)
     }
 }
 
+/// Searches by the present labels for a pair that was taken just now, and settles it.
+fn settle_at_once(chase: &mut Chase<'_>, ticket: Ticket, woken: &mut Woken) -> Settled
+    requires ends { PairAt chase.old.setup.task ticket.pair ticket.a ticket.b }
+    requires apart { ¬ (Joined chase.old.book.journal ticket.a ticket.b) }
+    ensures settles { SettlesPresent chase.old ticket result chase.new }
+    ensures setup { chase.new.setup ≡ chase.old.setup }
+    ensures grows { (more : List Entry) × (chase.new.book.journal ≡ chase.old.book.journal ++ more) }
+    ensures woken { All (λ p. p < length chase.old.setup.task.pairs) woken.new.list }
+{
+    // What holds of every chase.
+    let _ = chase.book();
+    chase.settle_at_once(ticket, woken)
+}
+
 /// Takes the pair that was hinted last, or without a hint the first that is Ready, passes the gate, searches by the
 /// present labels and settles. It answers whether it had a hint or a pair.
 fn search_next<G: Gate>(
-    shared: &mut Shared<'_>,
+    chase: &mut Chase<'_>,
     hints: &mut Vec<u32>,
     woken: &mut Woken,
     count: u32,
     gate: &G,
 ) -> bool
     requires hints { All (λ p. p < count) hints.old.items }
-    requires count { length shared.old.chase.setup.task.pairs ≡ count }
-    ensures setup { shared.new.chase.setup ≡ shared.old.chase.setup }
-    ensures grows { (more : List Entry) × (shared.new.chase.book.journal ≡ shared.old.chase.book.journal ++ more) }
+    requires count { length chase.old.setup.task.pairs ≡ count }
+    ensures setup { chase.new.setup ≡ chase.old.setup }
+    ensures grows { (more : List Entry) × (chase.new.book.journal ≡ chase.old.book.journal ++ more) }
     ensures hints { All (λ p. p < count) hints.new.items }
-    ensures ends { ¬ (IsTrue result) → shared.new.chase.table.ready ≡ [] }
+    ensures ends { ¬ (IsTrue result) → chase.new.table.ready ≡ [] }
 {
     let hint = hints.pop();
-    match shared.chase.take_unseen(hint) {
+    match chase.take_unseen(hint) {
         Some(ticket) => {
             gate.pass(0, ticket.pair);
-            shared.settle_at_once(ticket, woken);
+            settle_at_once(chase, ticket, woken);
             keep_woken(hints, woken.list(), count);
             true
         }
@@ -62,18 +78,18 @@ pub fn work_alone<'a, G: Gate, R: Wait>(
     ensures ends { result.table.ready ≡ [] }
 {
     let mut workspace = workspace;
-    let mut shared = Shared { chase };
-    let count = shared.chase.setup().pairs().len() as u32;
+    let mut chase = chase;
+    let count = chase.setup().pairs().len() as u32;
     deal_alone(&mut workspace.pending, count);
     for _ in rt.forever() {
         if !search_next(
-            &mut shared,
+            &mut chase,
             &mut workspace.pending,
             &mut workspace.woken,
             count,
             gate,
         ) {
-            return shared.chase;
+            return chase;
         }
     }
     unreachable!()

@@ -5,7 +5,9 @@ ghost use Rattle.chase_laws.specs.declared.entry.Entry.{Entry};
 ghost use Rattle.chase_core.specs.Taking.{TakesFirst, TakesHint};
 ghost use Rattle.steal_pool.specs.declared.batch.Next.TheVariants.{End};
 ghost use Rattle.steal_pool.specs.declared.workspace.Job.{Job};
-ghost use Rattle.steal_pool.specs.Workspaces.{HasRoom, IsOwnDeque, IsWorkspace, ReachEach, Thief};
+ghost use Rattle.steal_pool.specs.Workspaces.{IsPlace, IsOwnDeque, IsWorkspace, ReachEach, Thief};
+ghost use Rattle.label_board.specs.Seen.{SeenBoard};
+ghost use Rattle.steal_pool.specs.Bases.{board_over};
 ghost use Rattle.steal_pool.specs.Batches.{IsJob, IsSearched, SettlesBy, pair_in};
 
 use crate::hints::Thief;
@@ -13,7 +15,7 @@ use crate::hunt::{keep_woken, next_hint};
 use crate::shared::Shared;
 use crate::workspace::{Job, Progress, Workspace};
 use chase_core::Woken;
-use chase_core::held_law::law_held;
+use label_board::Board;
 
 /// What a worker does after a turn.
 #[derive(Clone, Copy)]
@@ -29,25 +31,29 @@ pub enum Next {
 /// Settles a job that was searched, and keeps what that wakes. A job that was not searched stays as it is.
 fn settle_job(
     shared: &mut Shared<'_>,
+    board: &Board,
     job: &mut Job,
     woken: &mut Woken,
     pending: &mut Vec<u32>,
     count: u32,
 )
+    requires board { board_over shared.old.chase.setup shared.old.scribe.board ≡ board.now }
+    requires place { IsPlace shared.old.chase.setup.widest board.now job.old }
     requires job { IsJob shared.old.chase.setup.task shared.old.chase.book.journal job.old }
     requires pending { All (λ p. p < count) pending.old.items }
     requires count { length shared.old.chase.setup.task.pairs ≡ count }
     ensures settles { SettlesBy shared.old.chase job.old.view.pairs job.old.progress shared.new.chase job.new.progress }
     ensures settled { ¬ (IsSearched job.new.progress) }
     ensures setup { shared.new.chase.setup ≡ shared.old.chase.setup }
+    ensures board { shared.new.scribe.board ≡ shared.old.scribe.board }
     ensures grows { (more : List Entry) × (shared.new.chase.book.journal ≡ shared.old.chase.book.journal ++ more) }
     ensures pending { All (λ p. p < count) pending.new.items }
-    ensures view { job.new.view ≡ job.old.view }
+    ensures place { IsPlace shared.old.chase.setup.widest board.now job.new }
     ensures job { IsJob shared.new.chase.setup.task shared.new.chase.book.journal job.new }
 {
     match job.progress {
         Progress::Searched(ticket, outcome) => {
-            shared.settle(ticket, &job.view, outcome, woken);
+            shared.settle(board, &mut job.watcher, ticket, &job.view, outcome, woken);
             keep_woken(pending, woken.list(), count);
             job.progress = Progress::Free;
         }
@@ -59,44 +65,50 @@ fn settle_job(
 /// Settles the first jobs, in order.
 fn settle_all(
     shared: &mut Shared<'_>,
+    board: &Board,
     jobs: &mut [Job],
     used: usize,
     woken: &mut Woken,
     pending: &mut Vec<u32>,
     count: u32,
 )
+    requires board { board_over shared.old.chase.setup shared.old.scribe.board ≡ board.now }
     requires jobs { All (IsJob shared.old.chase.setup.task shared.old.chase.book.journal) jobs.old }
-    requires rooms { All (HasRoom shared.old.chase.setup.widest) jobs.old }
+    requires places { All (IsPlace shared.old.chase.setup.widest board.now) jobs.old }
     requires pending { All (λ p. p < count) pending.old.items }
     requires count { length shared.old.chase.setup.task.pairs ≡ count }
     ensures settled { (k : ℕ) (d : Job) → k < used → k < length jobs.old → ¬ (IsSearched (slice_index_or jobs.new k d).progress) }
     ensures setup { shared.new.chase.setup ≡ shared.old.chase.setup }
+    ensures board { shared.new.scribe.board ≡ shared.old.scribe.board }
     ensures grows { (more : List Entry) × (shared.new.chase.book.journal ≡ shared.old.chase.book.journal ++ more) }
     ensures pending { All (λ p. p < count) pending.new.items }
     ensures jobs { All (IsJob shared.new.chase.setup.task shared.new.chase.book.journal) jobs.new }
-    ensures rooms { All (HasRoom shared.old.chase.setup.widest) jobs.new }
+    ensures places { All (IsPlace shared.old.chase.setup.widest board.now) jobs.new }
 {
-    law_held();
     for k in 0..used.min(jobs.len()) {
-        settle_job(shared, &mut jobs[k], woken, pending, count);
+        settle_job(shared, board, &mut jobs[k], woken, pending, count);
     }
 }
 
 /// Takes a pair for a job that has none. It answers whether it has one now.
-fn take_job(shared: &mut Shared<'_>, job: &mut Job, hint: Option<u32>) -> bool
+fn take_job(shared: &mut Shared<'_>, board: &Board, job: &mut Job, hint: Option<u32>) -> bool
+    requires place { IsPlace shared.old.chase.setup.widest board.now job.old }
     requires free { pair_in job.old.progress ≡ None }
     requires hint { IfSome hint (λ p. p < length shared.old.chase.setup.task.pairs) }
-    requires room { HasRoom shared.old.chase.setup.widest job.old }
     ensures takes { MatchOption hint (TakesFirst shared.old.chase shared.new.chase (pair_in job.new.progress)) (λ p. TakesHint shared.old.chase shared.new.chase p (pair_in job.new.progress)) }
     ensures taken { IsTrue result ↔ IsSome (pair_in job.new.progress) }
     ensures none { hint ≡ None → ¬ (IsTrue result) → shared.new.chase.table.ready ≡ [] }
     ensures setup { shared.new.chase.setup ≡ shared.old.chase.setup }
     ensures book { shared.new.chase.book ≡ shared.old.chase.book }
-    ensures room { job.new.view.room ≡ job.old.view.room }
+    ensures scribe { shared.new.scribe ≡ shared.old.scribe }
+    ensures place { IsPlace shared.old.chase.setup.widest board.now job.new }
     ensures job { IsJob shared.old.chase.setup.task shared.old.chase.book.journal job.new }
 {
-    match shared.chase.take(hint, &mut job.view) {
+    // The board is only named in the contract.
+    let _ = board;
+    match shared.take(hint) {
         Some(ticket) => {
+            job.since = shared.chase.book().journal().len();
             job.progress = Progress::Taken(ticket);
             true
         }
@@ -109,20 +121,21 @@ fn take_job(shared: &mut Shared<'_>, job: &mut Job, hint: Option<u32>) -> bool
 
 /// Takes a pair for a job that has none. One that has a pair keeps it, so that none is ever lost. It answers whether the
 /// job has one now.
-fn fill_job(shared: &mut Shared<'_>, job: &mut Job, hint: Option<u32>) -> bool
+fn fill_job(shared: &mut Shared<'_>, board: &Board, job: &mut Job, hint: Option<u32>) -> bool
+    requires place { IsPlace shared.old.chase.setup.widest board.now job.old }
     requires job { IsJob shared.old.chase.setup.task shared.old.chase.book.journal job.old }
     requires hint { IfSome hint (λ p. p < length shared.old.chase.setup.task.pairs) }
-    requires room { HasRoom shared.old.chase.setup.widest job.old }
     ensures kept { (p : ℕ) → pair_in job.old.progress ≡ Some p → job.new.progress ≡ job.old.progress }
     ensures taken { IsTrue result ↔ IsSome (pair_in job.new.progress) }
     ensures none { hint ≡ None → ¬ (IsTrue result) → shared.new.chase.table.ready ≡ [] }
     ensures setup { shared.new.chase.setup ≡ shared.old.chase.setup }
     ensures book { shared.new.chase.book ≡ shared.old.chase.book }
-    ensures room { job.new.view.room ≡ job.old.view.room }
+    ensures scribe { shared.new.scribe ≡ shared.old.scribe }
+    ensures place { IsPlace shared.old.chase.setup.widest board.now job.new }
     ensures job { IsJob shared.old.chase.setup.task shared.old.chase.book.journal job.new }
 {
     match job.progress {
-        Progress::Free => take_job(shared, job, hint),
+        Progress::Free => take_job(shared, board, job, hint),
         Progress::Taken(_) => true,
         Progress::Searched(_, _) => true,
     }
@@ -139,6 +152,7 @@ fn hint_unless(dry: bool, workspace: &mut Workspace, thieves: &[Thief], n: u32) 
     ensures passes { ReachEach n thieves.now workspace.new.steal_passes.items }
     ensures pending { All (λ p. p < n) workspace.new.pending.items }
     ensures jobs { workspace.new.jobs ≡ workspace.old.jobs }
+    ensures spare { workspace.new.spare ≡ workspace.old.spare }
     ensures hint { IfSome result (λ p. p < n) }
 {
     if dry {
@@ -152,17 +166,19 @@ fn hint_unless(dry: bool, workspace: &mut Workspace, thieves: &[Thief], n: u32) 
 fn take_all(
     shared: &mut Shared<'_>,
     workspace: &mut Workspace,
+    board: &Board,
     thieves: &[Thief],
     most: usize,
     others: bool,
 ) -> Next
     requires jobs { All (IsJob shared.old.chase.setup.task shared.old.chase.book.journal) workspace.old.jobs.items }
-    requires workspace { IsWorkspace (length shared.old.chase.setup.task.pairs) shared.old.chase.setup.widest thieves.now workspace.old }
+    requires workspace { IsWorkspace (length shared.old.chase.setup.task.pairs) shared.old.chase.setup.widest board.now thieves.now workspace.old }
     ensures ends { result ≡ End → shared.new.chase.table.ready ≡ [] }
     ensures setup { shared.new.chase.setup ≡ shared.old.chase.setup }
     ensures book { shared.new.chase.book ≡ shared.old.chase.book }
+    ensures scribe { shared.new.scribe ≡ shared.old.scribe }
     ensures jobs { All (IsJob shared.old.chase.setup.task shared.old.chase.book.journal) workspace.new.jobs.items }
-    ensures workspace { IsWorkspace (length shared.old.chase.setup.task.pairs) shared.old.chase.setup.widest thieves.now workspace.new }
+    ensures workspace { IsWorkspace (length shared.old.chase.setup.task.pairs) shared.old.chase.setup.widest board.now thieves.now workspace.new }
 {
     let count = workspace.count;
     let mut taken = false;
@@ -175,7 +191,7 @@ fn take_all(
             workspace.searches = taken;
             return if taken { Next::Search } else { Next::LookAgain };
         }
-        if fill_job(shared, &mut workspace.jobs[k], hint) {
+        if fill_job(shared, board, &mut workspace.jobs[k], hint) {
             taken = true;
         } else if dry {
             workspace.searches = taken;
@@ -190,7 +206,7 @@ fn take_all(
 /// that waits in a batch is searched by what was known when it was taken.
 pub fn resize(workspace: &mut Workspace, wanted: bool)
     ensures jobs { workspace.new.jobs ≡ workspace.old.jobs }
-    ensures workspace { (n widest : ℕ) → (thieves : List Thief) → IsWorkspace n widest thieves workspace.old → IsWorkspace n widest thieves workspace.new }
+    ensures workspace { (n widest : ℕ) → (on : SeenBoard) → (thieves : List Thief) → IsWorkspace n widest on thieves workspace.old → IsWorkspace n widest on thieves workspace.new }
 {
     workspace.size = if wanted {
         workspace.size.saturating_mul(2).min(workspace.jobs.len())
@@ -204,20 +220,24 @@ pub fn resize(workspace: &mut Workspace, wanted: bool)
 pub fn settle_and_take(
     shared: &mut Shared<'_>,
     workspace: &mut Workspace,
+    board: &Board,
     thieves: &[Thief],
     others: bool,
 ) -> Next
+    requires board { board_over shared.old.chase.setup shared.old.scribe.board ≡ board.now }
     requires jobs { All (IsJob shared.old.chase.setup.task shared.old.chase.book.journal) workspace.old.jobs.items }
-    requires workspace { IsWorkspace (length shared.old.chase.setup.task.pairs) shared.old.chase.setup.widest thieves.now workspace.old }
+    requires workspace { IsWorkspace (length shared.old.chase.setup.task.pairs) shared.old.chase.setup.widest board.now thieves.now workspace.old }
     ensures ends { result ≡ End → shared.new.chase.table.ready ≡ [] }
     ensures setup { shared.new.chase.setup ≡ shared.old.chase.setup }
+    ensures board { shared.new.scribe.board ≡ shared.old.scribe.board }
     ensures grows { (more : List Entry) × (shared.new.chase.book.journal ≡ shared.old.chase.book.journal ++ more) }
     ensures short { length shared.new.chase.book.journal < 2 ^ 32 }
     ensures jobs { All (IsJob shared.old.chase.setup.task shared.new.chase.book.journal) workspace.new.jobs.items }
-    ensures workspace { IsWorkspace (length shared.old.chase.setup.task.pairs) shared.old.chase.setup.widest thieves.now workspace.new }
+    ensures workspace { IsWorkspace (length shared.old.chase.setup.task.pairs) shared.old.chase.setup.widest board.now thieves.now workspace.new }
 {
     settle_all(
         shared,
+        board,
         workspace.jobs.as_mut_slice(),
         workspace.used,
         &mut workspace.woken,
@@ -226,7 +246,14 @@ pub fn settle_and_take(
     );
     let share = workspace.share.max(1) as usize;
     let most = (shared.chase.ready_count() / share).max(1);
-    let next = take_all(shared, workspace, thieves, most.min(workspace.size), others);
+    let next = take_all(
+        shared,
+        workspace,
+        board,
+        thieves,
+        most.min(workspace.size),
+        others,
+    );
     shared.holds();
     next
 }

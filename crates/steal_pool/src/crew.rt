@@ -1,17 +1,19 @@
 //! A crew: workers that are ready to share a chase.
 
-ghost use Rattle.std.specs.Prelude.{◌≡◌, ◌<◌, ◌≤◌, ℕ, All, IfOk, IfErr, vec_len, vec_capacity};
+ghost use Rattle.std.specs.Prelude.{◌≡◌, ◌<◌, ◌≤◌, ℕ, All, IfOk, IfErr, length, vec_len, vec_capacity};
 ghost use Rattle.chase_core.specs.Setup.{Preparation};
-ghost use Rattle.steal_pool.specs.CrewMembers.{IsCrewMember, AllOutWith, pair_count, widest_of};
+ghost use Rattle.steal_pool.specs.Bases.{pair_count, widest_of, board_of};
+ghost use Rattle.steal_pool.specs.CrewMembers.{IsCrewMember, AllOutWith};
 ghost use Rattle.steal_pool.specs.Workspaces.{IsWorkspace};
 
 use crate::crew_member::CrewMember;
 use crate::hints::Thief;
 use crate::shared::Shared;
 use crate::workspace::Workspace;
-use crate::workspaces::workspaces;
+use crate::workspaces::{batch_size, workspaces};
 use chase_core::Chase;
 use gk_base::NoMemory;
+use label_board::Board;
 use std::alloc::Global;
 use std::marker::Model;
 use turn_lock::{Pass, TurnLock};
@@ -20,6 +22,7 @@ use turn_lock::{Pass, TurnLock};
 /// of the chase, and how many workers there are. A crew ends only in `run_crew`.
 pub struct Crew<'a> {
     pub(crate) lock: TurnLock<Shared<'a>>,
+    pub(crate) board: Board,
     pub(crate) thieves: Vec<Thief>,
     pub(crate) members: Vec<CrewMember<Shared<'a>>>,
     /// Room for the passes when they come back.
@@ -35,12 +38,13 @@ impl<'a> Model for Crew<'a> {
 
     ghost view = { λ c. record { setup = (opened c.lock).chase.setup; journal = (opened c.lock).chase.book.journal; workers = length c.members.items } };
 
-    ghost invariant = { λ c. IsCrew c.lock c.thieves.items c.members.items c.home };
+    ghost invariant = { λ c. IsCrew c.lock c.board c.thieves.items c.members.items c.home };
 }
 
 /// Gives each pass a workspace.
 fn members_of<'a>(
     lock: &TurnLock<Shared<'a>>,
+    board: &Board,
     thieves: &[Thief],
     passes: &mut Vec<Pass<Shared<'a>>>,
     workspaces: &mut Vec<Workspace>,
@@ -48,11 +52,13 @@ fn members_of<'a>(
 )
     requires count { vec_len passes.old ≡ vec_len workspaces.old }
     requires room { (vec_len members.old ≡ 0) × (vec_len passes.old ≤ vec_capacity members.old) }
-    requires parts { (S : Preparation) × AllOutWith lock.now S passes.old.items × All (IsWorkspace (pair_count S) (widest_of S) thieves.now) workspaces.old.items }
+    requires parts { (S : Preparation) × AllOutWith lock.now (S, board.now) passes.old.items × All (IsWorkspace (length S.task.pairs) S.widest board.now thieves.now) workspaces.old.items }
     ensures count { vec_len members.new ≡ vec_len passes.old }
     ensures home { (vec_len passes.new ≡ 0) × (vec_capacity passes.new ≡ vec_capacity passes.old) }
-    ensures members { All (IsCrewMember pair_count widest_of lock.now thieves.now) members.new.items }
+    ensures members { All (IsCrewMember pair_count widest_of board_of lock.now board.now thieves.now) members.new.items }
 {
+    // The board is only named in the contract.
+    let _ = board;
     while let Some(pass) = passes.pop() {
         let workspace = workspaces.pop().unwrap();
         members.push_reserved(CrewMember { pass, workspace });
@@ -73,7 +79,20 @@ impl<'a> Crew<'a> {
         ensures workers { IfOk result (λ c. c.workers ≡ workers) }
         ensures err { IfErr result (λ e. e.0 ≡ chase.entry) }
     {
-        let Ok((thieves, mut workspaces)) = workspaces(alloc, chase.setup(), workers) else {
+        let names = chase.setup().graph().names();
+        let jobs = batch_size(chase.setup().widest());
+        let Ok((board, scribe, watchers)) = Board::new(alloc, chase.book(), names, workers * jobs)
+        else {
+            return Err((chase, NoMemory));
+        };
+        let Ok((thieves, mut workspaces)) = workspaces(
+            alloc,
+            chase.setup(),
+            &board,
+            watchers,
+            workers,
+            jobs,
+        ) else {
             return Err((chase, NoMemory));
         };
         let Ok(mut members) = Vec::with_capacity(alloc, workers as usize) else {
@@ -81,10 +100,11 @@ impl<'a> Crew<'a> {
         };
         // For the proof alone: the journal is shorter than what a lock can count.
         let _ = chase.book();
-        match TurnLock::new(alloc, Shared { chase }, workers) {
+        match TurnLock::new(alloc, Shared { chase, scribe }, workers) {
             Ok((lock, mut passes)) => {
                 members_of(
                     &lock,
+                    &board,
                     thieves.as_slice(),
                     &mut passes,
                     &mut workspaces,
@@ -92,13 +112,14 @@ impl<'a> Crew<'a> {
                 );
                 Ok(Crew {
                     lock,
+                    board,
                     thieves,
                     members,
                     home: passes,
                 })
             }
             Err((shared, NoMemory)) => {
-                let Shared { chase } = shared;
+                let Shared { chase, .. } = shared;
                 Err((chase, NoMemory))
             }
         }

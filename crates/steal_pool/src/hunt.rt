@@ -1,7 +1,8 @@
 //! Where a worker looks for a hint, and where the pairs go that its settles woke.
 
 ghost use Rattle.std.specs.Prelude.{◌≡◌, [], ℕ, ◌<◌, All, IfSome, IsTrue};
-ghost use Rattle.steal_pool.specs.Workspaces.{IsOwnDeque, ReachEach};
+ghost use Rattle.label_board.specs.Seen.{SeenBoard};
+ghost use Rattle.steal_pool.specs.Workspaces.{IsOwnDeque, IsWorkspace, ReachEach};
 
 use crate::hints::{HintDeque, Thief, pop, push, steal};
 use crate::workspace::{StealPass, Workspace};
@@ -59,6 +60,7 @@ pub fn next_hint(workspace: &mut Workspace, thieves: &[Thief], n: u32) -> Option
     ensures passes { ReachEach n thieves.now workspace.new.steal_passes.items }
     ensures pending { All (λ p. p < n) workspace.new.pending.items }
     ensures jobs { workspace.new.jobs ≡ workspace.old.jobs }
+    ensures spare { workspace.new.spare ≡ workspace.old.spare }
     ensures hint { IfSome result (λ p. p < n) }
 {
     if let Some(hint) = workspace.pending.pop() {
@@ -71,6 +73,22 @@ pub fn next_hint(workspace: &mut Workspace, thieves: &[Thief], n: u32) -> Option
         workspace.number,
         n,
     )
+}
+
+/// Looks for a hint, and keeps it for the next turn. It answers whether there was one.
+pub fn keep_hint(workspace: &mut Workspace, thieves: &[Thief]) -> bool
+    requires { (n widest : ℕ) × (on : SeenBoard) × IsWorkspace n widest on thieves.now workspace.old }
+    ensures jobs { workspace.new.jobs ≡ workspace.old.jobs }
+    ensures workspace { (n widest : ℕ) → (on : SeenBoard) → IsWorkspace n widest on thieves.now workspace.old → IsWorkspace n widest on thieves.now workspace.new }
+{
+    let count = workspace.count;
+    match next_hint(workspace, thieves, count) {
+        Some(hint) => {
+            let _ = workspace.pending.push(hint);
+            true
+        }
+        None => false,
+    }
 }
 
 /// Keeps the pairs that a settle woke until they may be pushed, so that the first of them is the first to come off. What

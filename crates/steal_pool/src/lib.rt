@@ -11,6 +11,7 @@
 //! - `shared`: the chase as a value with a journal
 //! - `threads`: workers in threads of their own, over any value
 //! - `worker`: what a worker does until it ends
+//! - `search`: searches by labels of the board
 //! - `turns`: a turn of a worker
 //! - `batch`: what a worker does with the chase in a turn
 //! - `alone`: what a worker does that has a chase for itself
@@ -33,6 +34,7 @@ mod hint_rule;
 mod hints;
 mod hunt;
 mod run;
+mod search;
 mod shared;
 mod threads;
 mod turns;

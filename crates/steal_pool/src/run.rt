@@ -28,6 +28,7 @@ pub fn run_crew<'a, G: Gate, R: Threads + Wait + Sync>(
 {
     let Crew {
         lock,
+        board,
         thieves,
         mut members,
         mut home,
@@ -37,6 +38,7 @@ pub fn run_crew<'a, G: Gate, R: Threads + Wait + Sync>(
     work_all(
         rt,
         &lock,
+        &board,
         thieves.as_slice(),
         gate,
         &in_search,
@@ -48,7 +50,7 @@ pub fn run_crew<'a, G: Gate, R: Threads + Wait + Sync>(
         home.push_reserved(pass);
         last = Some(workspace);
     }
-    let Shared { chase } = lock.close(home);
+    let Shared { chase, .. } = lock.close(home);
     match last {
         Some(workspace) if alone => work_alone(rt, chase, workspace, gate),
         _ => chase,

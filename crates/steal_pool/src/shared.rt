@@ -1,38 +1,57 @@
-//! The chase as a value with a journal.
+//! The chase with the scribe of its board, as a value with a journal.
 
-ghost use Rattle.std.specs.Prelude.{◌≡◌, ◌++◌, ◌<◌, ◌^◌, ℕ, List, All, length};
+ghost use Rattle.std.specs.Prelude.{◌≡◌, ◌++◌, ◌<◌, ◌^◌, ℕ, List, All, IfSome, MatchOption, length};
 ghost use Rattle.chase_laws.specs.declared.entry.Entry.{Entry};
-ghost use Rattle.chase_laws.specs.Core.{PairAt};
-ghost use Rattle.chase_laws.specs.Joined.{Joined};
-ghost use Rattle.chase_core.specs.Running.{IsRunning};
-ghost use Rattle.chase_core.specs.Holding.{IsHeld};
+ghost use Rattle.chase_laws.specs.Core.{Happens, IsSound, ListsNear, PairAt, State};
+ghost use Rattle.chase_laws.specs.Core.Event.{Enter};
+ghost use Rattle.chase_core.specs.Running.{IsRunning, state_in};
 ghost use Rattle.chase_core.specs.Settling.{IsFoundBy, Settles};
-ghost use Rattle.chase_core.specs.Present.{SettlesPresent};
+ghost use Rattle.chase_core.specs.Taking.{TakesFirst, TakesHint, pair_of};
+ghost use Rattle.steal_pool.specs.Bases.{base_with, board_over};
 
 use chase_core::held_law::law_held;
 use chase_core::{Chase, Outcome, Settled, Setup, Ticket, Woken};
 use chase_laws::Entry;
+use label_board::{Board, Scribe, Watcher, law_met};
 use paired_search::View;
 use turn_lock::Journaled;
 
-/// A chase that workers share. Its base is the setup, and its entries are the journal, which only grows.
+/// A chase that workers share, and the scribe that posts its entries. Its base is the setup and the scribe's board, and its
+/// entries are the journal, which only grows. What was posted is the journal, and the board shows the labels of the book.
 #[derive(Drop)]
 pub struct Shared<'a> {
     pub chase: Chase<'a>,
+    pub(crate) scribe: Scribe,
+    ghost posted: { scribe.posted ≡ chase.book.journal },
+    ghost shown: { scribe.shown ≡ chase.book.labels },
 }
 
 impl<'a> Journaled for Shared<'a> {
-    type Base = Setup;
+    type Base = (Setup, Board);
 
     type Item = Entry;
 
-    ghost base = { λ s. s.chase.setup };
+    ghost base = { λ s. base_with s.chase.setup s.scribe.board };
 
     ghost entries = { λ s. s.chase.book.journal };
 
     fn count(&self) -> u64 {
         self.chase.book().journal().len() as u64
     }
+}
+
+/// Posts the last entry of a chase whose other entries were posted, and whose labels before it are shown.
+fn post_last(board: &Board, scribe: &mut Scribe, chase: &Chase<'_>)
+    requires board { board_over chase.now.setup scribe.old.board ≡ board.now }
+    requires entered { (old : State) × (p : ℕ) × (e : Entry) × Happens chase.now.setup.task old (Enter p e) (state_in chase.now) × IsSound chase.now.setup.task old
+        × (scribe.old.posted ≡ old.journal) × (scribe.old.shown ≡ old.labels) }
+    ensures board { scribe.new.board ≡ scribe.old.board }
+    ensures posted { scribe.new.posted ≡ chase.now.book.journal }
+    ensures shown { scribe.new.shown ≡ chase.now.book.labels }
+{
+    // What holds of every chase.
+    let _ = chase.setup().pairs();
+    board.post(scribe, chase.book());
 }
 
 impl<'a> Shared<'a> {
@@ -46,36 +65,49 @@ impl<'a> Shared<'a> {
         let _ = self.chase.setup().pairs();
     }
 
-    /// Settles a pair that was taken, by what a search with its view came to.
+    /// Hands a pair out, as `Chase::take_unseen` does.
+    pub(crate) fn take(&mut self, hint: Option<u32>) -> Option<Ticket>
+        requires hint { IfSome hint (λ p. p < length self.old.chase.setup.task.pairs) }
+        ensures takes { MatchOption hint (TakesFirst self.old.chase self.new.chase (pair_of result)) (λ p. TakesHint self.old.chase self.new.chase p (pair_of result)) }
+        ensures ends { IfSome result (λ t. PairAt self.old.chase.setup.task t.pair t.a t.b) }
+        ensures setup { self.new.chase.setup ≡ self.old.chase.setup }
+        ensures book { self.new.chase.book ≡ self.old.chase.book }
+        ensures scribe { self.new.scribe ≡ self.old.scribe }
+    {
+        self.chase.take_unseen(hint)
+    }
+
+    /// Settles a pair that was taken, by what a search with a view came to that the watcher filled. The watcher meets the
+    /// scribe first, so that what is the same by the view is joined by the journal. An entry is posted.
     pub(crate) fn settle(
         &mut self,
+        board: &Board,
+        watcher: &mut Watcher,
         ticket: Ticket,
         view: &View,
         outcome: Outcome,
         woken: &mut Woken,
     ) -> Settled
-        requires held { IsHeld self.old.chase.setup.task self.old.chase.book.journal ticket view.now.pairs }
+        requires board { board_over self.old.chase.setup self.old.scribe.board ≡ board.now }
+        requires watcher { (watcher.old.board ≡ board.now.id) × (watcher.old.read ≡ view.now.pairs) }
+        requires ends { PairAt self.old.chase.setup.task ticket.pair ticket.a ticket.b }
+        requires near { ListsNear self.old.chase.setup.task ticket.a ticket.b view.now.pairs }
         requires found { IsFoundBy self.old.chase.setup.task ticket view.now.pairs outcome }
         ensures settles { Settles self.old.chase ticket view.now.pairs outcome result self.new.chase }
+        ensures watcher { watcher.new ≡ watcher.old }
         ensures setup { self.new.chase.setup ≡ self.old.chase.setup }
+        ensures board { self.new.scribe.board ≡ self.old.scribe.board }
         ensures grows { (more : List Entry) × (self.new.chase.book.journal ≡ self.old.chase.book.journal ++ more) }
         ensures woken { All (λ p. p < length self.old.chase.setup.task.pairs) woken.new.list }
     {
+        law_met();
         law_held();
         self.holds();
-        self.chase.settle(ticket, view, outcome, woken)
-    }
-
-    /// Searches by the present labels for a pair that was taken just now, and settles it.
-    pub(crate) fn settle_at_once(&mut self, ticket: Ticket, woken: &mut Woken) -> Settled
-        requires ends { PairAt self.old.chase.setup.task ticket.pair ticket.a ticket.b }
-        requires apart { ¬ (Joined self.old.chase.book.journal ticket.a ticket.b) }
-        ensures settles { SettlesPresent self.old.chase ticket result self.new.chase }
-        ensures setup { self.new.chase.setup ≡ self.old.chase.setup }
-        ensures grows { (more : List Entry) × (self.new.chase.book.journal ≡ self.old.chase.book.journal ++ more) }
-        ensures woken { All (λ p. p < length self.old.chase.setup.task.pairs) woken.new.list }
-    {
-        self.holds();
-        self.chase.settle_at_once(ticket, woken)
+        board.meet(watcher, &mut self.scribe);
+        let settled = self.chase.settle(ticket, view, outcome, woken);
+        if let Settled::Entered(_) = settled {
+            post_last(board, &mut self.scribe, &self.chase);
+        }
+        settled
     }
 }

@@ -1,11 +1,13 @@
 //! Workers in threads of their own, over any value: the lifetime of the value stays behind the type parameter.
 
 ghost use Rattle.std.specs.Prelude.{◌≡◌, ℕ, All};
+ghost use Rattle.label_board.specs.Seen.{SeenBoard};
 ghost use Rattle.steal_pool.specs.CrewMembers.{IsCrewMember};
 
 use crate::crew_member::CrewMember;
 use crate::gate::Gate;
 use crate::hints::Thief;
+use label_board::Board;
 use std::sync::Wait;
 use std::sync::atomic::AtomicU64;
 use std::thread;
@@ -20,30 +22,35 @@ pub trait Work: Journaled {
     /// The room that a view has to have.
     ghost widest: { Self.Base → ℕ };
 
+    /// The board of board.
+    ghost board_of: { Self.Base → SeenBoard };
+
     /// The number counts the workers that search at the time.
     fn work<G: Gate, R: Wait>(
         rt: &R,
         lock: &TurnLock<Self>,
+        board: &Board,
         thieves: &[Thief],
         gate: &G,
         in_search: &AtomicU64,
         member: &mut CrewMember<Self>,
     )
-        requires { IsCrewMember pairs widest lock.now thieves.now member.old }
-        ensures { IsCrewMember pairs widest lock.now thieves.now member.new };
+        requires { IsCrewMember pairs widest board_of lock.now board.now thieves.now member.old }
+        ensures { IsCrewMember pairs widest board_of lock.now board.now thieves.now member.new };
 }
 
 /// Each worker in a thread of its own, where there are several. All have ended when it returns.
 pub fn work_all<T: Work + Send, G: Gate, R: Threads + Wait + Sync>(
     rt: &R,
     lock: &TurnLock<T>,
+    board: &Board,
     thieves: &[Thief],
     gate: &G,
     in_search: &AtomicU64,
     members: &mut [CrewMember<T>],
 )
-    requires { All (IsCrewMember T.pairs T.widest lock.now thieves.now) members.old }
-    ensures { All (IsCrewMember T.pairs T.widest lock.now thieves.now) members.new }
+    requires { All (IsCrewMember T.pairs T.widest T.board_of lock.now board.now thieves.now) members.old }
+    ensures { All (IsCrewMember T.pairs T.widest T.board_of lock.now board.now thieves.now) members.new }
 {
     if members.len() < 2 {
         return;
@@ -53,8 +60,8 @@ pub fn work_all<T: Work + Send, G: Gate, R: Threads + Wait + Sync>(
         members,
         64,
         &|_, member|
-            requires { IsCrewMember T.pairs T.widest lock.now thieves.now member.now }
-            ensures { IsCrewMember T.pairs T.widest lock.entry.now thieves.entry.now member.exit.now }
-        { T::work(rt, lock, thieves, gate, in_search, member) },
+            requires { IsCrewMember T.pairs T.widest T.board_of lock.now board.now thieves.now member.now }
+            ensures { IsCrewMember T.pairs T.widest T.board_of lock.entry.now board.entry.now thieves.entry.now member.exit.now }
+        { T::work(rt, lock, board, thieves, gate, in_search, member) },
     );
 }

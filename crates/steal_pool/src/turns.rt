@@ -2,6 +2,7 @@
 
 ghost use Rattle.std.specs.Prelude.{◌≡◌, Some};
 ghost use Rattle.turn_lock.specs.Handles.{base_of};
+ghost use Rattle.chase_laws.specs.Core.{name_count};
 ghost use Rattle.steal_pool.specs.Batches.{IsAtWork};
 
 use crate::batch::{Next, resize, settle_and_take};
@@ -10,7 +11,7 @@ use crate::hints::Thief;
 use crate::hunt::push_kept;
 use crate::shared::Shared;
 use chase_core::Setup;
-use chase_core::held_law::law_held;
+use label_board::Board;
 use std::sync::Wait;
 use std::sync::atomic::{AtomicU64, Ordering};
 use turn_lock::TurnLock;
@@ -32,13 +33,16 @@ fn count_out(in_search: &AtomicU64, before: bool, now: bool) {
 /// Pushes the pairs that a worker's last settles woke.
 fn push_woken<'a>(
     lock: &TurnLock<Shared<'a>>,
+    board: &Board,
     thieves: &[Thief],
     member: &mut CrewMember<Shared<'a>>,
 )
-    requires { IsAtWork lock.now thieves.now member.old }
-    ensures at_work { IsAtWork lock.now thieves.now member.new }
+    requires { IsAtWork lock.now board.now thieves.now member.old }
+    ensures at_work { IsAtWork lock.now board.now thieves.now member.new }
     ensures pass { member.new.pass ≡ member.old.pass }
 {
+    // The board is only named in the contract.
+    let _ = board;
     push_kept(
         &mut member.workspace.own,
         &mut member.workspace.pending,
@@ -50,20 +54,21 @@ fn push_woken<'a>(
 fn settle_and_take_in_turn<'a, R: Wait>(
     rt: &R,
     lock: &TurnLock<Shared<'a>>,
+    board: &Board,
     thieves: &[Thief],
     in_search: &AtomicU64,
     member: &mut CrewMember<Shared<'a>>,
 ) -> (Next, &'a Setup)
-    requires { IsAtWork lock.now thieves.now member.old }
-    ensures at_work { IsAtWork lock.now thieves.now member.new }
-    ensures setup { base_of member.new.pass ≡ Some result.1.now }
+    requires { IsAtWork lock.now board.now thieves.now member.old }
+    ensures at_work { IsAtWork lock.now board.now thieves.now member.new }
+    ensures names { board.now.names ≡ name_count result.1.now.task }
+    ensures setup { base_of member.new.pass ≡ Some (result.1.now, board.now) }
 {
-    law_held();
     let searched = member.workspace.searches;
     let mut turn = lock.enter(rt, &mut member.pass);
     let shared = turn.value();
     let others = in_search.load(Ordering::SeqCst) > u64::from(searched);
-    let next = settle_and_take(shared, &mut member.workspace, thieves, others);
+    let next = settle_and_take(shared, &mut member.workspace, board, thieves, others);
     let setup = shared.chase.setup();
     resize(&mut member.workspace, lock.is_wanted(&member.pass));
     count_in(in_search, searched, member.workspace.searches);
@@ -78,17 +83,19 @@ fn settle_and_take_in_turn<'a, R: Wait>(
 pub fn change_batch<'a, R: Wait>(
     rt: &R,
     lock: &TurnLock<Shared<'a>>,
+    board: &Board,
     thieves: &[Thief],
     in_search: &AtomicU64,
     member: &mut CrewMember<Shared<'a>>,
 ) -> (Next, &'a Setup)
-    requires { IsAtWork lock.now thieves.now member.old }
-    ensures at_work { IsAtWork lock.now thieves.now member.new }
-    ensures setup { base_of member.new.pass ≡ Some result.1.now }
+    requires { IsAtWork lock.now board.now thieves.now member.old }
+    ensures at_work { IsAtWork lock.now board.now thieves.now member.new }
+    ensures names { board.now.names ≡ name_count result.1.now.task }
+    ensures setup { base_of member.new.pass ≡ Some (result.1.now, board.now) }
 {
     let searched = member.workspace.searches;
-    let (next, setup) = settle_and_take_in_turn(rt, lock, thieves, in_search, member);
-    push_woken(lock, thieves, member);
+    let (next, setup) = settle_and_take_in_turn(rt, lock, board, thieves, in_search, member);
+    push_woken(lock, board, thieves, member);
     count_out(in_search, searched, member.workspace.searches);
     (next, setup)
 }

@@ -2,6 +2,7 @@
 
 use crate::hints::{HintDeque, ThiefPass};
 use chase_core::{Outcome, Ticket, Woken};
+use label_board::Watcher;
 use paired_search::View;
 
 /// A pass for stealing from one worker's deque. The number gives it a size: what has no bytes cannot be lent for writing
@@ -24,10 +25,14 @@ pub enum Progress {
     Searched(Ticket, Outcome),
 }
 
-/// A place of a worker's batch: a pair from its take to its settling, and the view that it is searched by.
+/// A place of a worker's batch: a pair from its take to its settling, and the view that it is searched by, with the watcher
+/// that fills it.
 #[derive(Drop)]
 pub struct Job {
     pub view: View,
+    pub watcher: Watcher,
+    /// How many entries there were when the pair was taken.
+    pub since: usize,
     pub progress: Progress,
 }
 
@@ -54,4 +59,6 @@ pub struct Workspace {
     /// Whether the present batch has a pair.
     pub searches: bool,
     pub jobs: Vec<Job>,
+    /// A view for a second look at the board.
+    pub spare: View,
 }

@@ -1,13 +1,14 @@
 //! The workers' workspaces.
 
-ghost use Rattle.std.specs.Prelude.{◌≡◌, ◌<◌, ◌≤◌, ◌/◌, ℕ, [], All, IfOk, length, max, min};
-ghost use Rattle.steal_pool.specs.Workspaces.{HasRoom, IsOwnDeque, IsWorkspace, ReachAll, deque_ids};
+ghost use Rattle.std.specs.Prelude.{◌≡◌, ◌<◌, ◌≤◌, ◌+◌, ◌*◌, ◌/◌, ℕ, [], All, IfOk, length, max, min};
+ghost use Rattle.steal_pool.specs.Workspaces.{IsPlace, IsOwnDeque, IsWorkspace, ReachAll, deque_ids};
 
 use crate::deques::{deal, deques, steal_passes_of, thieves_of};
 use crate::hints::{HintDeque, Thief};
 use crate::workspace::{Job, Progress, StealPass, Workspace};
 use chase_core::{Setup, Woken};
 use gk_base::NoMemory;
+use label_board::{Board, Watcher};
 use paired_search::View;
 use std::alloc::Global;
 
@@ -45,22 +46,35 @@ fn all_steal_passes(
 }
 
 /// How many jobs a worker has, where its views have room for so many names each.
-fn batch_size(widest: u32) -> u32
-    ensures { result ≡ max 1 (min 64 (65536 / max 1 widest)) }
+pub fn batch_size(widest: u32) -> u32
+    ensures size { result ≡ max 1 (min 64 (65536 / max 1 widest)) }
+    ensures within { (0 < result) × (result ≤ 64) }
 {
     BATCH.min(NAMES / widest.max(1)).max(1)
 }
 
-/// So many jobs without a pair, with room for the widest view.
-fn free_jobs(alloc: Global, widest: u32, count: u32) -> Result<Vec<Job>, NoMemory>
-    ensures count { IfOk result (λ js. length js.items ≡ count) }
-    ensures rooms { IfOk result (λ js. All (HasRoom widest) js.items) }
+/// Jobs without a pair, for the last so many of the watchers, with room for the widest view.
+fn free_jobs(
+    alloc: Global,
+    board: &Board,
+    widest: u32,
+    watchers: &mut Vec<Watcher>,
+    count: u32,
+) -> Result<Vec<Job>, NoMemory>
+    requires enough { count ≤ length watchers.old.items }
+    requires watchers { All (λ w. w.board ≡ board.now.id) watchers.old.items }
+    ensures left { IfOk result (λ js. length watchers.new.items + count ≡ length watchers.old.items) }
+    ensures watchers { All (λ w. w.board ≡ board.now.id) watchers.new.items }
+    ensures places { IfOk result (λ js. All (IsPlace widest board.now) js.items) }
 {
     let mut jobs = Vec::with_capacity(alloc, count as usize)?;
     for _ in 0..count {
+        let watcher = watchers.pop().unwrap();
         let view = View::new(alloc, widest)?;
         jobs.push_reserved(Job {
             view,
+            watcher,
+            since: 0,
             progress: Progress::Free,
         });
     }
@@ -75,16 +89,17 @@ fn workspace_of(
     share: u32,
     own: HintDeque,
     steal_passes: Vec<StealPass>,
+    jobs: Vec<Job>,
 ) -> Result<Workspace, NoMemory>
     ensures count { IfOk result (λ w. w.count ≡ length setup.now.task.pairs) }
     ensures own { IfOk result (λ w. w.own ≡ own) }
     ensures passes { IfOk result (λ w. w.steal_passes ≡ steal_passes) }
     ensures pending { IfOk result (λ w. w.pending.items ≡ []) }
-    ensures rooms { IfOk result (λ w. All (HasRoom setup.now.widest) w.jobs.items) }
+    ensures jobs { IfOk result (λ w. w.jobs ≡ jobs) }
+    ensures spare { IfOk result (λ w. setup.now.widest ≤ w.spare.room) }
 {
     let count = setup.pairs().len() as u32;
-    let widest = setup.widest();
-    let jobs = free_jobs(alloc, widest, batch_size(widest))?;
+    let spare = View::new(alloc, setup.widest())?;
     let woken = Woken::new(alloc, WOKEN)?;
     let pending = Vec::with_capacity(alloc, WOKEN as usize)?;
     Ok(Workspace {
@@ -99,20 +114,29 @@ fn workspace_of(
         used: 0,
         searches: false,
         jobs,
+        spare,
     })
 }
 
-/// The workspaces of so many workers, and a handle of each deque. The first pairs are dealt as hints.
+/// The workspaces of so many workers, and a handle of each deque. The first pairs are dealt as hints. A worker has so
+/// many jobs, and each of these has one of the watchers.
 pub fn workspaces(
     alloc: Global,
     setup: &Setup,
+    board: &Board,
+    watchers: Vec<Watcher>,
     workers: u32,
+    each: u32,
 ) -> Result<(Vec<Thief>, Vec<Workspace>), NoMemory>
-    requires { (0 < workers) × (workers ≤ 64) }
+    requires workers { (0 < workers) × (workers ≤ 64) }
+    requires enough { length watchers.items ≡ workers * each }
+    requires watchers { All (λ w. w.board ≡ board.now.id) watchers.items }
     ensures each { IfOk result (λ r. length r.1.items ≡ workers) }
-    ensures workspaces { IfOk result (λ r. All (IsWorkspace (length setup.now.task.pairs) setup.now.widest r.0.items) r.1.items) }
+    ensures workspaces { IfOk result (λ r. All (IsWorkspace (length setup.now.task.pairs) setup.now.widest board.now r.0.items) r.1.items) }
 {
+    let mut watchers = watchers;
     let count = setup.pairs().len() as u32;
+    let widest = setup.widest();
     let mut owned = deques(alloc, workers, count)?;
     deal(owned.as_mut_slice(), count);
     let thieves = thieves_of(alloc, owned.as_slice())?;
@@ -121,7 +145,8 @@ pub fn workspaces(
     while let Some(own) = owned.pop() {
         let passes = lists.pop().unwrap();
         let number = owned.len() as u32;
-        let workspace = workspace_of(alloc, setup, number, PART * workers, own, passes)?;
+        let jobs = free_jobs(alloc, board, widest, &mut watchers, each)?;
+        let workspace = workspace_of(alloc, setup, number, PART * workers, own, passes, jobs)?;
         workspaces.push_reserved(workspace);
     }
     Ok((thieves, workspaces))

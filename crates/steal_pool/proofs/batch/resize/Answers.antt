@@ -1,10 +1,11 @@
 use Rattle.steal_pool.proofs.batch.resize.Goals as goal
 
 pub returns-clause-workspace : goal.returns-clause-workspace
-returns-clause-workspace c = λ n widest thieves h. record {
+returns-clause-workspace c = λ n widest on thieves h. record {
   count = h.count;
   own = h.own;
   passes = h.passes;
   pending = h.pending;
-  rooms = h.rooms;
+  places = h.places;
+  spare = h.spare;
 }

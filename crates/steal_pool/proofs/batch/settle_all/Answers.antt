@@ -12,7 +12,8 @@ loop-k-preserved c =
       setup = e.setup ∙ v.setup;
       grows = (v.grows.0 ++ e.grows.0, e.grows.1 ∙ ap (λ js. js ++ e.grows.0) v.grows.1 ∙ append_assoc c.args.shared.now.chase.book.journal v.grows.0 e.grows.0);
       pending = e.pending;
-      jobs = settled_one c.law_held.ensures.stays c.loop-k.shared.chase.setup c.settle_job.new.shared.chase.setup c.loop-k.shared.chase.book.journal _ e.grows.0 c.loop-k.jobs c.loop-k.k c.settle_job.new.job
+      jobs = settled_one c.loop-k.shared.chase.setup c.settle_job.new.shared.chase.setup c.loop-k.shared.chase.book.journal _ e.grows.0 c.loop-k.jobs c.loop-k.k c.settle_job.new.job
           e.setup e.grows.1 e.job v.jobs;
-      rooms = search rules;
+      board = e.board ∙ v.board;
+      places = search rules;
     }

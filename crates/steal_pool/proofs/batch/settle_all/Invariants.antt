@@ -1,7 +1,7 @@
 use Rattle.std.proofs.Common.{◌≡◌, ◌++◌, ◌<◌, ℕ, All, List, length, get_or}
 use Rattle.chase_laws.specs.declared.entry.Entry.{Entry}
 use Rattle.steal_pool.specs.declared.workspace.Job.{Job}
-use Rattle.steal_pool.specs.Workspaces.{HasRoom}
+use Rattle.steal_pool.specs.Workspaces.{IsPlace}
 use Rattle.steal_pool.specs.Batches.{IsJob, IsSearched}
 use Rattle.steal_pool.proofs.batch.settle_all.Given as goal
 
@@ -13,5 +13,6 @@ invariant-loop-k l = record {
   grows : (more : List Entry) × (l.shared.chase.book.journal ≡ l.fn.shared.chase.book.journal ++ more);
   pending : All (λ p. p < l.count) l.pending.items;
   jobs : All (IsJob l.shared.chase.setup.task l.shared.chase.book.journal) l.jobs;
-  rooms : All (HasRoom l.fn.shared.chase.setup.widest) l.jobs;
+  board : l.shared.scribe.board ≡ l.fn.shared.scribe.board;
+  places : All (IsPlace l.fn.shared.chase.setup.widest l.board) l.jobs;
 }

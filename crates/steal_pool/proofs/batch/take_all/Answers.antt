@@ -1,10 +1,9 @@
-use Rattle.std.proofs.Common.{rules, arith, length, ℕ, All, ◌<◌, ◌≤◌, sym, subst, ◌∙◌}
+use Rattle.std.proofs.Common.{rules, arith, length, ℕ, All, ◌<◌, subst, ◌∙◌}
 use Rattle.std.proofs.lemmas.List.Elements.{All-set}
 use Rattle.class_book.specs.Classes.{Classes}
 use Rattle.chase_core.specs.Setup.{Preparation}
-use Rattle.steal_pool.specs.declared.workspace.Job.{Job}
 use Rattle.steal_pool.specs.Batches.{IsJob}
-use Rattle.steal_pool.specs.Workspaces.{IsOwnDeque, ReachEach, HasRoom}
+use Rattle.steal_pool.specs.Workspaces.{IsOwnDeque, ReachEach, IsPlace}
 use Rattle.steal_pool.proofs.batch.take_all.Goals as goal
 
 pub loop-k-preserved : goal.loop-k-preserved
@@ -16,11 +15,12 @@ loop-k-preserved c =
     let B = c.args.shared.now.chase.book in
     let jobs = c.hint_unless-hint.new.workspace.jobs.items in
     let within : c.loop-k.k < length jobs = rw h.jobs (omega arith) in
-    let rooms : All (HasRoom S.widest) jobs = rw h.jobs v.workspace.rooms in
+    let places : All (IsPlace S.widest c.args.board.now) jobs = rw h.jobs v.workspace.places in
     record {
       count = search rules;
       setup = t.setup ∙ v.setup;
       book = t.book ∙ v.book;
+      scribe = t.scribe ∙ v.scribe;
       jobs = All-set (IsJob S.task B.journal) jobs c.loop-k.k c.fill_job.new.job
           (subst (λ (Z : Preparation). IsJob Z.task B.journal c.fill_job.new.job) v.setup (subst (λ (b : Classes). IsJob c.loop-k.shared.chase.setup.task b.journal c.fill_job.new.job) v.book t.job))
           (rw h.jobs v.jobs);
@@ -29,9 +29,9 @@ loop-k-preserved c =
         own = subst (λ (n : ℕ). IsOwnDeque n c.hint_unless-hint.new.workspace.own) c.requires.workspace.count h.own;
         passes = subst (λ (n : ℕ). ReachEach n c.args.thieves.now c.hint_unless-hint.new.workspace.steal_passes.items) c.requires.workspace.count h.passes;
         pending = subst (λ (n : ℕ). All (λ p. p < n) c.hint_unless-hint.new.workspace.pending.items) c.requires.workspace.count h.pending;
-        rooms = All-set (HasRoom S.widest) jobs c.loop-k.k c.fill_job.new.job
-            (subst (λ (r : ℕ). S.widest ≤ r) (sym t.room)
-            (subst (λ (j : Job). HasRoom S.widest j) (sym c.index_mut.ensures.value) (rooms c.loop-k.k c.index_mut.result.now within)))
-            rooms;
+        places = All-set (IsPlace S.widest c.args.board.now) jobs c.loop-k.k c.fill_job.new.job
+            (subst (λ (S' : Preparation). IsPlace S'.widest c.args.board.now c.fill_job.new.job) v.setup t.place)
+            places;
+        spare = rw h.spare v.workspace.spare;
       };
     }

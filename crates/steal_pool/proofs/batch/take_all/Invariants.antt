@@ -8,6 +8,7 @@ invariant-loop-k l = record {
   count : length l.workspace.jobs.items ≡ length l.fn.workspace.jobs.items;
   setup : l.shared.chase.setup ≡ l.fn.shared.chase.setup;
   book : l.shared.chase.book ≡ l.fn.shared.chase.book;
+  scribe : l.shared.scribe ≡ l.fn.shared.scribe;
   jobs : All (IsJob l.fn.shared.chase.setup.task l.fn.shared.chase.book.journal) l.workspace.jobs.items;
-  workspace : IsWorkspace (length l.fn.shared.chase.setup.task.pairs) l.fn.shared.chase.setup.widest l.thieves l.workspace;
+  workspace : IsWorkspace (length l.fn.shared.chase.setup.task.pairs) l.fn.shared.chase.setup.widest l.board l.thieves l.workspace;
 }

@@ -18,12 +18,14 @@ returns-clause-at_work c =
         out = m.out;
         base = m.base;
         based = m.based;
+        posts = m.posts;
         workspace = record {
           count = w.count;
           own = subst (λ (n : ℕ). IsOwnDeque n c.push_kept.new.own) w.count c.push_kept.ensures.own;
           passes = w.passes;
           pending = rw c.push_kept.ensures.empty (λ k d l. absurd (omega arith));
-          rooms = w.rooms;
+          places = w.places;
+          spare = w.spare;
         };
       };
       jobs = c.requires.jobs;

@@ -10,13 +10,15 @@ returns c =
         out = r.out;
         base = r.base;
         based = r.based;
+        posts = r.posts;
         workspace = record {
           count = r.workspace.count;
           own = r.workspace.own;
           passes = r.workspace.passes;
           pending = r.workspace.pending;
-          rooms = c.free_all.ensures.rooms r.base.widest r.workspace.rooms;
+          places = c.free_all.ensures.places r.base.0.widest c.args.board.now r.workspace.places;
+          spare = r.workspace.spare;
         };
       };
-      jobs = λ S e. c.free_all.ensures.jobs S.task (seen c.args.member.now.pass);
+      jobs = λ B e. c.free_all.ensures.jobs B.0.task (seen c.args.member.now.pass);
     }

@@ -1,5 +1,0 @@
-use Rattle.steal_pool.proofs.Wakings.{woken_within}
-use Rattle.steal_pool.proofs.shared.Shared.settle_at_once.Goals as goal
-
-pub returns-clause-woken : goal.returns-clause-woken
-returns-clause-woken c = woken_within _ c.args.self.now.chase c.settle_at_once.new.self c.args.ticket.pair c.settle_at_once.result c.args.woken.now.room c.settle_at_once.new.woken.list c.holds.ensures.running.sound.one_state_each c.settle_at_once.ensures.woken

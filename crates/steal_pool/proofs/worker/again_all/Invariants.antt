@@ -1,0 +1,11 @@
+use Rattle.std.proofs.Common.{◌≡◌, Some, length}
+use Rattle.turn_lock.specs.Handles.{base_of}
+use Rattle.steal_pool.specs.Batches.{IsAtWork}
+use Rattle.steal_pool.proofs.worker.again_all.Given as goal
+
+abbrev pub invariant-loop-k : goal.invariant-loop-k
+invariant-loop-k l = record {
+  at_work : IsAtWork l.lock l.board l.thieves l.member;
+  base : base_of l.member.pass ≡ Some (l.setup, l.board);
+  count : length l.member.workspace.jobs.items ≡ length l.fn.member.workspace.jobs.items;
+}

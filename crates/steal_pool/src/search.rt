@@ -1,0 +1,89 @@
+//! Searches by labels of the board.
+
+ghost use Rattle.std.specs.Prelude.{◌≡◌, ◌≤◌, List, IsTrue};
+ghost use Rattle.chase_laws.specs.declared.entry.Entry.{Entry};
+ghost use Rattle.chase_laws.specs.Core.{PairAt, ListsNear, name_count};
+ghost use Rattle.steal_pool.specs.Workspaces.{IsPlace};
+ghost use Rattle.steal_pool.specs.Batches.{IsJob, SearchesBy};
+
+use crate::workspace::{Job, Progress};
+use chase_core::{Outcome, Setup, Ticket, outcome_of};
+use label_board::{Board, Watcher};
+use paired_search::View;
+use std::mem;
+
+/// Fills a view of what is near to a pair's ends from the board.
+fn look(setup: &Setup, board: &Board, ticket: &Ticket, watcher: &mut Watcher, view: &mut View)
+    requires board { (watcher.old.board ≡ board.now.id) × (board.now.names ≡ name_count setup.now.task) }
+    requires ends { PairAt setup.now.task ticket.now.pair ticket.now.a ticket.now.b }
+    requires room { setup.now.widest ≤ view.old.room }
+    ensures near { ListsNear setup.now.task ticket.now.a ticket.now.b view.new.pairs }
+    ensures read { watcher.new.read ≡ view.new.pairs }
+    ensures board { watcher.new.board ≡ watcher.old.board }
+    ensures room { view.new.room ≡ view.old.room }
+{
+    // What holds of every setup: its pairs are of names.
+    let _ = setup.pairs();
+    let near = setup.near();
+    let left = near.near(ticket.a);
+    let right = near.near(ticket.b);
+    board.fill(watcher, left, right, view);
+}
+
+/// Searches for the pair of a job that was taken, by labels of the board. Another job stays as it is.
+pub fn search_job(setup: &Setup, board: &Board, job: &mut Job)
+    requires place { IsPlace setup.now.widest board.now job.old }
+    requires names { board.now.names ≡ name_count setup.now.task }
+    requires job { (seen : List Entry) × IsJob setup.now.task seen job.old }
+    ensures place { IsPlace setup.now.widest board.now job.new }
+    ensures searches { SearchesBy setup.now.task job.new.view.pairs job.old.progress job.new.progress }
+    ensures job { (seen : List Entry) → IsJob setup.now.task seen job.old → IsJob setup.now.task seen job.new }
+{
+    match job.progress {
+        Progress::Taken(ticket) => {
+            look(setup, board, &ticket, &mut job.watcher, &mut job.view);
+            let outcome = outcome_of(setup, &ticket, &job.view);
+            job.progress = Progress::Searched(ticket, outcome);
+        }
+        Progress::Searched(_, _) => {}
+        Progress::Free => {}
+    }
+}
+
+/// Whether two views are the same: names and labels.
+fn are_same(first: &View, second: &View) -> bool
+    ensures { IsTrue result → second.now.pairs ≡ first.now.pairs }
+{
+    if first.len() != second.len() {
+        return false;
+    }
+    for place in 0..first.len() {
+        let (name, label) = first.at(place);
+        let (other_name, other_label) = second.at(place);
+        if name != other_name || label != other_label {
+            return false;
+        }
+    }
+    true
+}
+
+/// Looks at the board once more where a search has failed, and searches again where a label has changed meanwhile. Another
+/// job stays as it is.
+pub fn search_again(setup: &Setup, board: &Board, job: &mut Job, spare: &mut View)
+    requires place { IsPlace setup.now.widest board.now job.old }
+    requires spare { setup.now.widest ≤ spare.old.room }
+    requires names { board.now.names ≡ name_count setup.now.task }
+    requires job { (seen : List Entry) × IsJob setup.now.task seen job.old }
+    ensures place { IsPlace setup.now.widest board.now job.new }
+    ensures spare { setup.now.widest ≤ spare.new.room }
+    ensures job { (seen : List Entry) → IsJob setup.now.task seen job.old → IsJob setup.now.task seen job.new }
+{
+    if let Progress::Searched(ticket, Outcome::Missed) = job.progress {
+        look(setup, board, &ticket, &mut job.watcher, spare);
+        if !are_same(&job.view, spare) {
+            mem::swap(&mut job.view, spare);
+            let outcome = outcome_of(setup, &ticket, &job.view);
+            job.progress = Progress::Searched(ticket, outcome);
+        }
+    }
+}
