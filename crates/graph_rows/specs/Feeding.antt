@@ -71,7 +71,7 @@ FeedsBatch shelf before after reader fed_reader (Err NoMemory) = shelf.faults af
 FeedsBatch shelf before after reader fed_reader (Err (Fault Failed)) = ShelfFails shelf before after
 FeedsBatch shelf before after reader fed_reader (Err (Fault (Refused refusal))) = (gone : List ℕ) × FeedsOn shelf before after reader fed_reader gone
     × ((taken : List Triple) (seen : List ℕ) → HasRead reader taken seen → IsOpen reader.limits seen →
-        Refuses reader.limits (seen ++ gone) refusal × ((n : ℕ) → n + 65536 ≤ length (seen ++ gone) → IsOpen reader.limits (take n (seen ++ gone))))
+    Refuses reader.limits (seen ++ gone) refusal × ((n : ℕ) → n + 65536 ≤ length (seen ++ gone) → IsOpen reader.limits (take n (seen ++ gone))))
 
 -- all that was left was read and fed, and what is said of the triples that were taken holds; or why not
 abbrev pub FeedsAll : {K A : Type 0} (shelf : Shelf.Ghosts K) (before after : K) (limits : Limits) (fed_reader : Reading) (Kept : List Triple → Type 0) → Result A (Stop (FileFault ReadRefusal)) → Type 0

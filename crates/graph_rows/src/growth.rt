@@ -57,8 +57,9 @@ pub fn number_growth<R: Threads>(
     let flags = Vec::from_slice(alloc, &literal)?;
     let numbers = Vec::from_slice(alloc, &alike)?;
     let count = names.len();
-    let first =
-        Graph::build_in_threads(rt, alloc, threads, front, count, flags, rdf_type, numbers)?;
+    let first = Graph::build_in_threads(
+        rt, alloc, threads, front, count, flags, rdf_type, numbers,
+    )?;
     let both = Graph::build_in_threads(rt, alloc, threads, rows, count, literal, rdf_type, alike)?;
     Ok(Growth {
         names,

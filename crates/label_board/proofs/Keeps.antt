@@ -218,14 +218,14 @@ module _ (names : ℕ) where
 
   pub glances : (slots id : ℕ) (me : Seated) → Allows Rule slots id me 0 (λ n. n) (Glances (step slots 0 0 0 none) me)
   glances slots id me s r _ at _ = let k = r.each id me.0 at in let w : Knowledge = with_read me.0 [] in (
-      w,
-      keeps,
-      tt,
-      loaded s r 0 id w me.1 r.finished r.posted
-          record { scribe = k.scribe; read = none_joined r.entries; notes = k.notes; early = k.early; noted_early = k.noted_early; fresh = λ _. none_shown r.labels; noted_fresh = k.noted_fresh }
-          (λ j u _. r.each j u),
-      (refl, refl),
-    )
+    w,
+    keeps,
+    tt,
+    loaded s r 0 id w me.1 r.finished r.posted
+        record { scribe = k.scribe; read = none_joined r.entries; notes = k.notes; early = k.early; noted_early = k.noted_early; fresh = λ _. none_shown r.labels; noted_fresh = k.noted_fresh }
+        (λ j u _. r.each j u),
+    (refl, refl),
+  )
 
   pub meets : (slots id : ℕ) (me : Seated) → me.0.writes ≡ true → Allows Rule slots id me 0 (λ n. n) (Meets (step slots 0 0 0 none) me)
   meets slots id me may s r _ at _ = let k = r.each id me.0 at in let is = k.scribe may in let posted = r.posted in
@@ -287,8 +287,8 @@ module _ (names : ℕ) where
     each = all_set (KnowsBoard r.writer r.finished r.entries r.labels) (set s.views id b) other (watcher_of [] [])
         (watching r.writer r.finished r.entries r.labels other [] [] (none_joined r.entries) (omega arith) (λ _. none_shown r.labels))
         (λ j z _. all_set (KnowsBoard r.writer r.finished r.entries r.labels) s.views id b
-            record { scribe = k.scribe; read = k.read; notes = l.read; early = k.early; noted_early = l.early; fresh = k.fresh; noted_fresh = l.fresh }
-            (λ i y _. r.each i y) j z);
+        record { scribe = k.scribe; read = k.read; notes = l.read; early = k.early; noted_early = l.early; fresh = k.fresh; noted_fresh = l.fresh }
+        (λ i y _. r.each i y) j z);
   }
 
   first_seat : (entries : List Entry) (labels : List ℕ) (j : ℕ) (z : Knowledge) → get_elem? (scribe_of entries labels ∷ []) j ≡ some z → KnowsBoard 0 (length entries) entries labels j z
