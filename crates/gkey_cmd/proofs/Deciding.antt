@@ -1,9 +1,10 @@
 -- How a run ends, from what was read.
-use Rattle.std.proofs.Common.{List, [], ◌∷◌, ◌++◌, ℕ, true, All, map, Option, Some, Result, Ok, Err, IfSome, IsSomeAnd, MatchResult, Vec, Global, vec_items, ◌≡◌, ◌∙◌, inl, inr, refl, sym, subst}
+use Rattle.std.proofs.Common.{List, [], ◌∷◌, ◌++◌, ℕ, true, All, map, Option, Some, Result, Ok, Err, IfOk, IfSome, IsSomeAnd, MatchResult, Vec, Global, vec_items, ◌≡◌, ◌∙◌, inl, inr, refl, sym, subst}
 use Rattle.gk_base.specs.declared.limits.Limits.{Limits}
 use Rattle.gk_base.specs.declared.read_fault.ReadRefusal.{ReadRefusal}
 use Rattle.gk_base.specs.declared.stop.Stop.{Stop}
 use Rattle.gk_base.specs.declared.stop.Stop.TheVariants as stop
+use Rattle.gk_base.specs.declared.memory.NoMemory.{NoMemory as Wants}
 use Rattle.gk_base.specs.declared.term.Triple.{Triple}
 use Rattle.gk_io.specs.Cause.{Rose}
 use Rattle.gk_io.specs.Files.{bytes_of}
@@ -23,7 +24,8 @@ use Rattle.proof_graph.specs.ProofText.{ProofSays}
 use Rattle.proof_check.specs.Verdict.{verdict}
 use Rattle.graph_rows.specs.GraphFile.{StopsSoon, StopsAtGraph}
 use Rattle.graph_rows.proofs.CallerLemmas.{told, told_more, told_both}
-use Rattle.gkey_cmd.specs.Commands.{Wanted, Matching, Proving, Checking, Converting, Demonstrating, Merging, Explaining, demo_graph_name, demo_keys_name, files_of}
+use Rattle.gkey_cmd.specs.Commands.{Wanted, Matching, Proving, Checking, Converting, Demonstrating, Merging, Explaining, Helping, TellingVersion, demo_graph_name, demo_keys_name, files_of}
+use Rattle.gkey_cmd.specs.Texts.{help_text, version_text}
 use Rattle.gkey_cmd.specs.Reading.{NamedFiles, GraphSays, KeyFileSays, ProofFileSays, left_by, IsAcceptedLeaving, IsRefusedSo, AllAccepted, FirstRefused}
 use Rattle.gkey_cmd.specs.HowFar.{IsReadWithin, FileLeft, KeysLeft, ProofLeft, ChaseStops, LeavesFiles, StopsReading}
 use Rattle.gkey_cmd.specs.Failing.{HasFailed}
@@ -487,6 +489,23 @@ demo_caused shelf at limits command n is (Failed file) h = absurd h
 demo_caused shelf at limits command n is (Refused refusal) h = (Demonstrating n, is, (refl, h, refl))
 demo_caused shelf at limits command n is NoMemory h = (Demonstrating n, is, refl)
 demo_caused shelf at limits command n is (Done answer text) h = (Demonstrating n, is, (refl, h, refl))
+
+-- help and version go by no file: each causes the run's ending with its text, or with want of memory for it
+pub help_caused : {K : Type 0} (shelf : Shelf.Ghosts K) (at : K) (limits : Limits) (command : Option Wanted) → command ≡ Some Helping →
+    (text : Result (Vec ℕ Global) Wants) → IfOk text (λ t. vec_items t ≡ help_text) →
+    (ending : Ending) → MatchResult text (λ t. ending ≡ Done Given t) (λ _. ending ≡ NoMemory) → Caused shelf at at command limits ending
+help_caused shelf at limits command is (Ok t) written ending e =
+    subst (λ x. Caused shelf at at command limits x) (sym e) (Helping, is, (refl, ((tt, tt, (λ h. h)), written), refl))
+help_caused shelf at limits command is (Err _) written ending e =
+    subst (λ x. Caused shelf at at command limits x) (sym e) (Helping, is, refl)
+
+pub version_caused : {K : Type 0} (shelf : Shelf.Ghosts K) (at : K) (limits : Limits) (command : Option Wanted) → command ≡ Some TellingVersion →
+    (text : Result (Vec ℕ Global) Wants) → IfOk text (λ t. vec_items t ≡ version_text) →
+    (ending : Ending) → MatchResult text (λ t. ending ≡ Done Given t) (λ _. ending ≡ NoMemory) → Caused shelf at at command limits ending
+version_caused shelf at limits command is (Ok t) written ending e =
+    subst (λ x. Caused shelf at at command limits x) (sym e) (TellingVersion, is, (refl, ((tt, tt, (λ h. h)), written), refl))
+version_caused shelf at limits command is (Err _) written ending e =
+    subst (λ x. Caused shelf at at command limits x) (sym e) (TellingVersion, is, refl)
 
 -- ---- the ending of a command that has one answer and its text, or has none
 

@@ -6,7 +6,7 @@ use Rattle.gk_io.specs.Files.{bytes_of}
 use Rattle.nt_reader.proofs.CallerLemmas.{file_once}
 use Rattle.key_lang.proofs.CallerLemmas.{keys_once}
 use Rattle.proof_graph.proofs.CallerLemmas.{proof_once}
-use Rattle.gkey_cmd.specs.Commands.{Wanted, Matching, Proving, Checking, Converting, Demonstrating, Merging, Explaining, Growing, files_of}
+use Rattle.gkey_cmd.specs.Commands.{Wanted, Matching, Proving, Checking, Converting, Demonstrating, Merging, Explaining, Growing, Helping, TellingVersion, files_of}
 use Rattle.gkey_cmd.specs.Reading.{NamedFiles, GraphSays, left_by, IsAcceptedLeaving, IsRefusedSo, AllAccepted, FirstRefused}
 use Rattle.gkey_cmd.specs.Entities.{NamesOne}
 use Rattle.gkey_cmd.specs.Written.{HasMorePairs, LacksEntity, HasEntities, IsRefusedAfter, IsRefused, AreAccepted}
@@ -143,6 +143,8 @@ lacks_or_has limits files (Explaining graph keys first second) First h k =
 lacks_or_has limits files (Explaining graph keys first second) Second h k =
     h.3 (subst (λ ts. NamesOne ts second) (same_triples limits (bytes_of files graph) k.0 h.0 k.1 h.1) k.3)
 lacks_or_has limits files (Growing graph more keys) asked h k = h
+lacks_or_has limits files Helping asked h k = h
+lacks_or_has limits files TellingVersion asked h k = h
 
 -- one word is the first that names none
 asked_once : (limits : Limits) (files : NamedFiles) (command : Wanted) (one other : Asked) → LacksEntity limits files command one → LacksEntity limits files command other → one ≡ other
@@ -159,6 +161,8 @@ asked_once limits files (Explaining graph keys first second) Second First h k =
     absurd (k.2 (subst (λ ts. NamesOne ts first) (same_triples limits (bytes_of files graph) h.0 k.0 h.1 k.1) h.2))
 asked_once limits files (Explaining graph keys first second) Second Second h k = refl
 asked_once limits files (Growing graph more keys) one other h k = absurd h
+asked_once limits files Helping one other h k = absurd h
+asked_once limits files TellingVersion one other h k = absurd h
 
 -- ---- a command is refused in one way
 

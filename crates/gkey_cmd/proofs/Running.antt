@@ -7,7 +7,7 @@ use Rattle.gk_io.specs.Taken.{Appends}
 use Rattle.gk_io.specs.declared.shelf.Shelf
 use Rattle.gk_io.specs.declared.sink.Sink
 use Rattle.graph_rows.proofs.CallerLemmas.{told, told_more}
-use Rattle.gkey_cmd.specs.Commands.{Wanted, Demonstrating}
+use Rattle.gkey_cmd.specs.Commands.{Wanted, AsksNoFiles}
 use Rattle.gkey_cmd.specs.Texts.{usage, out_of_memory, write_failed, read_failed, refused_text}
 use Rattle.gkey_cmd.specs.Reading.{NamedFiles}
 use Rattle.gkey_cmd.specs.HowFar.{LeavesFiles, StopsReading}
@@ -272,9 +272,9 @@ module _ {K O E : Type 0} (shelf : Shelf.Ghosts K) (out : Sink.Ghosts O) (err : 
   not_unread (Done answer text) f (inl w) three = not_three answer (sym w.0 ∙ three)
   not_unread (Done answer text) f (inr w) three = let four = w.0 in omega arith
 
-  pub demo_of : (ending : Ending) → LeavesShelf old new command ending → IsReportedAs out err out_before out_after err_before err_after ending status →
-      (n : ℕ) → command ≡ Some (Demonstrating n) → (new ≡ old) × (status ≢ 3)
-  demo_of ending left d n e = ((left n e).0, not_unread ending (left n e).1 d)
+  pub asks_no_files_of : (ending : Ending) → LeavesShelf old new command ending → IsReportedAs out err out_before out_after err_before err_after ending status →
+      AsksNoFiles command → (new ≡ old) × (status ≢ 3)
+  asks_no_files_of ending left d none = ((left none).0, not_unread ending (left none).1 d)
 
   abbrev IsOneOf : ℕ → Type 0
   IsOneOf n = IsTrue (list_any (λ s. s == n) (0 ∷ 1 ∷ 2 ∷ 3 ∷ 4 ∷ 5 ∷ 64 ∷ []))
@@ -303,7 +303,7 @@ module _ {K O E : Type 0} (shelf : Shelf.Ghosts K) (out : Sink.Ghosts O) (err : 
     unwritten = unwritten_of ending c d;
     wrote = wrote_of ending d;
     leaves_files = leaves_of ending c d;
-    demo = demo_of ending left d;
+    asks_no_files = asks_no_files_of ending left d;
     no_memory = no_memory_of ending d;
     no_command = no_command_of ending c d;
     usage_text = usage_of ending d;

@@ -1,10 +1,10 @@
 -- The commands, and the words that ask for them (this project's own).
-use Rattle.std.specs.Prelude.{List, [], ◌∷◌, ℕ, zero, suc, Bool, ◌<◌, ◌≤◌, Option, Some, None, option_map, is_some, ◌&&◌, codes, bytes_eq, if◌then◌else◌, ◌≡◌}
+use Rattle.std.specs.Prelude.{List, [], ◌∷◌, ℕ, zero, suc, Bool, ◌<◌, ◌≤◌, Option, Some, None, option_map, is_some, ◌&&◌, codes, bytes_eq, if◌then◌else◌, ◌≡◌, ⊤}
 use Rattle.std.specs.Fmt.{decimal}
 use Rattle.gkey_cmd.specs.declared.file.File.{File}
 use Rattle.gkey_cmd.specs.declared.file.File.TheVariants.{Graph, More, Keys, Proof}
 use Rattle.gkey_cmd.specs.declared.words.Command.{Command}
-use Rattle.gkey_cmd.specs.declared.words.Command.TheVariants.{Match, Prove, Check, Convert, Demo, Merge, Why, Grow}
+use Rattle.gkey_cmd.specs.declared.words.Command.TheVariants.{Match, Prove, Check, Convert, Demo, Merge, Why, Grow, Help, Version}
 
 -- a command with the names of its files and the words for two entities, or with the number of a demo
 pub data Wanted : Type 0 where
@@ -16,6 +16,8 @@ pub data Wanted : Type 0 where
   Merging : (graph keys : List ℕ) → Wanted
   Explaining : (graph keys first second : List ℕ) → Wanted
   Growing : (graph more keys : List ℕ) → Wanted
+  Helping : Wanted
+  TellingVersion : Wanted
 
 -- the number from 1 to the most that a word is in decimal, without sign and without leading zero
 unfoldable pub number_to : (most : ℕ) (word : List ℕ) → Option ℕ
@@ -35,9 +37,13 @@ abbrev pub are_workers : (option workers : List ℕ) → Bool
 are_workers option workers = bytes_eq option (codes "--workers") && is_some (number_to 64 workers)
 
 -- the table of the accepted words: `match GRAPH KEYS` and `match --workers N GRAPH KEYS`, with `prove` and `merge` in the same
--- two ways, `check GRAPH KEYS PROOF`, `convert PROOF`, `demo N`, `why GRAPH KEYS A B` and `why --workers N GRAPH KEYS A B`, and
--- `grow GRAPH MORE KEYS` and `grow --workers N GRAPH MORE KEYS`
+-- two ways, `check GRAPH KEYS PROOF`, `convert PROOF`, `demo N`, `why GRAPH KEYS A B` and `why --workers N GRAPH KEYS A B`,
+-- `grow GRAPH MORE KEYS` and `grow --workers N GRAPH MORE KEYS`, and `--help` and `--version`, each alone
 abbrev pub wanted : List (List ℕ) → Option Wanted
+wanted (command ∷ []) =
+    if bytes_eq command (codes "--help") then Some Helping
+    else if bytes_eq command (codes "--version") then Some TellingVersion
+    else None
 wanted (command ∷ argument ∷ []) =
     if bytes_eq command (codes "convert") then Some (Converting argument)
     else if bytes_eq command (codes "demo") then option_map Demonstrating (number_to 100000 argument)
@@ -74,6 +80,23 @@ files_of (Demonstrating n) = (Graph, demo_graph_name) ∷ (Keys, demo_keys_name)
 files_of (Merging graph keys) = (Graph, graph) ∷ (Keys, keys) ∷ []
 files_of (Explaining graph keys first second) = (Graph, graph) ∷ (Keys, keys) ∷ []
 files_of (Growing graph more keys) = (Graph, graph) ∷ (More, more) ∷ (Keys, keys) ∷ []
+files_of Helping = []
+files_of TellingVersion = []
+
+-- the words ask the shelf for nothing: a demo goes by its own texts, help and version go by no file, and with no command
+-- nothing is read
+abbrev pub AsksNoFiles : Option Wanted → Type 0
+AsksNoFiles None = ⊤
+AsksNoFiles (Some (Matching graph keys)) = ⊥
+AsksNoFiles (Some (Proving graph keys)) = ⊥
+AsksNoFiles (Some (Checking graph keys proof)) = ⊥
+AsksNoFiles (Some (Converting proof)) = ⊥
+AsksNoFiles (Some (Demonstrating n)) = ⊤
+AsksNoFiles (Some (Merging graph keys)) = ⊥
+AsksNoFiles (Some (Explaining graph keys first second)) = ⊥
+AsksNoFiles (Some (Growing graph more keys)) = ⊥
+AsksNoFiles (Some Helping) = ⊤
+AsksNoFiles (Some TellingVersion) = ⊤
 
 -- how many workers the words of a chase ask for: 4 where they name none
 abbrev pub workers_of : List (List ℕ) → Option ℕ
@@ -99,6 +122,8 @@ IsChaseOf asked workers (Demo n) = ⊥
 IsChaseOf asked workers (Merge w graph keys) = (asked ≡ Some (Merging graph.now keys.now)) × (w ≡ workers)
 IsChaseOf asked workers (Why w graph keys first second) = ⊥
 IsChaseOf asked workers (Grow w graph more keys) = ⊥
+IsChaseOf asked workers Help = ⊥
+IsChaseOf asked workers Version = ⊥
 
 -- the command for these words
 abbrev pub IsCommand : List (List ℕ) → Command → Type 0
@@ -110,3 +135,5 @@ IsCommand words (Demo n) = (wanted words ≡ Some (Demonstrating n)) × (0 < n) 
 IsCommand words (Merge workers graph keys) = IsChaseCommand words (Merging graph.now keys.now) workers
 IsCommand words (Why workers graph keys first second) = IsChaseCommand words (Explaining graph.now keys.now first.now second.now) workers
 IsCommand words (Grow workers graph more keys) = IsChaseCommand words (Growing graph.now more.now keys.now) workers
+IsCommand words Help = wanted words ≡ Some Helping
+IsCommand words Version = wanted words ≡ Some TellingVersion

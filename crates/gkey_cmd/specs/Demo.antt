@@ -11,7 +11,7 @@ use Rattle.key_file.specs.Numbered.{names_for, graph_of}
 use Rattle.demo_graph.specs.DemoTexts.{demo_graph_text, demo_keys_text}
 use Rattle.demo_graph.specs.DemoLine.{demo_line_text}
 use Rattle.demo_graph.specs.Counts.{IsPlaceCount}
-use Rattle.gkey_cmd.specs.Commands.{Wanted, Matching, Proving, Checking, Converting, Demonstrating, Merging, Explaining, Growing, demo_graph_name, demo_keys_name}
+use Rattle.gkey_cmd.specs.Commands.{Wanted, Matching, Proving, Checking, Converting, Demonstrating, Merging, Explaining, Growing, Helping, TellingVersion, demo_graph_name, demo_keys_name}
 use Rattle.gkey_cmd.specs.Reading.{NamedFiles}
 
 -- ---- the files
@@ -20,8 +20,8 @@ use Rattle.gkey_cmd.specs.Reading.{NamedFiles}
 unfoldable pub demo_files : ℕ → NamedFiles
 demo_files n = (demo_graph_name, demo_graph_text n) ∷ (demo_keys_name, demo_keys_text) ∷ []
 
--- The files whose bytes a command goes by, where they are told: those of the shelf, where it tells them, and of a demo its own
--- texts, whatever the shelf tells.
+-- The files whose bytes a command goes by, where they are told: those of the shelf, where it tells them; of a demo its own
+-- texts, and of help and version none, whatever the shelf tells.
 abbrev pub files_for : Option Wanted → (held : Option NamedFiles) → Option NamedFiles
 files_for None held = held
 files_for (Some (Matching graph keys)) held = held
@@ -32,6 +32,8 @@ files_for (Some (Demonstrating n)) held = Some (demo_files n)
 files_for (Some (Merging graph keys)) held = held
 files_for (Some (Explaining graph keys first second)) held = held
 files_for (Some (Growing graph more keys)) held = held
+files_for (Some Helping) held = Some []
+files_for (Some TellingVersion) held = Some []
 
 -- ---- the line
 

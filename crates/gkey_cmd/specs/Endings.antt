@@ -18,7 +18,7 @@ use Rattle.graph_rows.specs.Rows.{StandFor}
 use Rattle.graph_rows.specs.declared.rows.Rows.{Rows}
 use Rattle.graph_rows.specs.declared.pieces.MoreRows.{MoreRows}
 use Rattle.key_file.specs.KeyShape.{KeyShape}
-use Rattle.gkey_cmd.specs.Commands.{Wanted, Demonstrating}
+use Rattle.gkey_cmd.specs.Commands.{Wanted, Demonstrating, AsksNoFiles}
 use Rattle.gkey_cmd.specs.Texts.{usage, out_of_memory, write_failed, read_failed, refused_text}
 use Rattle.gkey_cmd.specs.Reading.{NamedFiles, GraphSays, KeyFileSays, left_by, IsAcceptedLeaving, IsRefusedSo}
 use Rattle.gkey_cmd.specs.HowFar.{KeysLeft, ProofLeft, LeavesFiles, StopsReading}
@@ -148,9 +148,9 @@ IsNoFailure (Refused refusal) = ⊤
 IsNoFailure NoMemory = ⊤
 IsNoFailure (Done answer text) = ⊤
 
--- a demo leaves the shelf as it was, and does not end at a file that could not be read
+-- words that ask the shelf for nothing leave it as it was, and the run does not end at a file that could not be read
 abbrev pub LeavesShelf : {K : Type 0} (shelf_before shelf_after : K) → Option Wanted → Ending → Type 0
-LeavesShelf shelf_before shelf_after command ending = (n : ℕ) → command ≡ Some (Demonstrating n) → (shelf_after ≡ shelf_before) × IsNoFailure ending
+LeavesShelf shelf_before shelf_after command ending = AsksNoFiles command → (shelf_after ≡ shelf_before) × IsNoFailure ending
 
 -- each of these files is accepted, and together they leave these limits to the files after them
 abbrev pub AllAcceptedLeaving : Limits → NamedFiles → List (File × List ℕ) → (left : Limits) → Type 0

@@ -5,7 +5,7 @@ use Rattle.gk_base.specs.declared.term.Triple.{Triple}
 use Rattle.gk_io.specs.Files.{bytes_of}
 use Rattle.gk_io.specs.declared.shelf.Shelf
 use Rattle.graph_rows.specs.GraphFile.{GraphStops}
-use Rattle.gkey_cmd.specs.Commands.{Wanted, Matching, Proving, Checking, Converting, Demonstrating, Merging, Explaining, Growing}
+use Rattle.gkey_cmd.specs.Commands.{Wanted, Matching, Proving, Checking, Converting, Demonstrating, Merging, Explaining, Growing, Helping, TellingVersion}
 use Rattle.gkey_cmd.specs.Reading.{GraphSays, left_by}
 use Rattle.gkey_cmd.specs.declared.ending.Refusal.{Refusal}
 use Rattle.gkey_cmd.specs.declared.ending.Refusal.TheVariants.{InGraph, InMore, InKeys, InProof, NoSuchEntity, MorePairsThan}
@@ -30,7 +30,7 @@ KeysLeft shelf shelf_before shelf_after limits name = FileLeft shelf shelf_befor
 abbrev pub ProofLeft : {K : Type 0} (shelf : Shelf.Ghosts K) (shelf_before shelf_after : K) → Limits → (name : List ℕ) → Type 0
 ProofLeft shelf shelf_before shelf_after limits name = FileLeft shelf shelf_before shelf_after limits.bytes name
 
--- how far the files of a command are read whose files are all read; a demo leaves the shelf as it was
+-- how far the files of a command are read whose files are all read; one that asks for none leaves the shelf as it was
 abbrev pub LeavesFiles : {K : Type 0} (shelf : Shelf.Ghosts K) (shelf_before shelf_after : K) → Wanted → Limits → Type 0
 LeavesFiles shelf shelf_before shelf_after (Matching graph keys) limits = KeysLeft shelf shelf_before shelf_after limits keys
 LeavesFiles shelf shelf_before shelf_after (Proving graph keys) limits = KeysLeft shelf shelf_before shelf_after limits keys
@@ -40,6 +40,8 @@ LeavesFiles shelf shelf_before shelf_after (Demonstrating n) limits = shelf_afte
 LeavesFiles shelf shelf_before shelf_after (Merging graph keys) limits = KeysLeft shelf shelf_before shelf_after limits keys
 LeavesFiles shelf shelf_before shelf_after (Explaining graph keys first second) limits = KeysLeft shelf shelf_before shelf_after limits keys
 LeavesFiles shelf shelf_before shelf_after (Growing graph more keys) limits = KeysLeft shelf shelf_before shelf_after limits keys
+LeavesFiles shelf shelf_before shelf_after Helping limits = shelf_after ≡ shelf_before
+LeavesFiles shelf shelf_before shelf_after TellingVersion limits = shelf_after ≡ shelf_before
 
 -- how far the files of a chase are read that is refused: a refused graph is left soon, and the key file is left where it, or
 -- what comes after it, is refused
@@ -58,7 +60,7 @@ MoreStops shelf shelf_before shelf_after graph more limits = (triples : List Tri
     × GraphStops shelf shelf_before shelf_after (left_by limits triples) more
 
 -- how far the files of a run are read that is refused: a refused graph is left soon, and a key file or a proof file is left
--- where it, or what comes after it, is refused; a demo leaves the shelf as it was
+-- where it, or what comes after it, is refused; a demo leaves the shelf as it was, and help and version are never refused
 abbrev pub StopsReading : {K : Type 0} (shelf : Shelf.Ghosts K) (shelf_before shelf_after : K) → Option Wanted → Limits → Refusal → Type 0
 StopsReading shelf shelf_before shelf_after None limits refusal = ⊥
 StopsReading shelf shelf_before shelf_after (Some (Matching graph keys)) limits refusal = ChaseStops shelf shelf_before shelf_after graph keys limits refusal
@@ -84,3 +86,5 @@ StopsReading shelf shelf_before shelf_after (Some (Growing graph more keys)) lim
 StopsReading shelf shelf_before shelf_after (Some (Growing graph more keys)) limits (InProof refusal) = ⊥
 StopsReading shelf shelf_before shelf_after (Some (Growing graph more keys)) limits (NoSuchEntity asked) = ⊥
 StopsReading shelf shelf_before shelf_after (Some (Growing graph more keys)) limits (MorePairsThan limit) = KeysLeft shelf shelf_before shelf_after limits keys
+StopsReading shelf shelf_before shelf_after (Some Helping) limits refusal = ⊥
+StopsReading shelf shelf_before shelf_after (Some TellingVersion) limits refusal = ⊥

@@ -5,7 +5,7 @@ use Rattle.gk_base.specs.declared.limits.Limits.{Limits}
 use Rattle.gk_io.specs.Cause.{Rose}
 use Rattle.gk_io.specs.declared.shelf.Shelf
 use Rattle.gk_io.specs.declared.sink.Sink
-use Rattle.gkey_cmd.specs.Commands.{Wanted, Demonstrating}
+use Rattle.gkey_cmd.specs.Commands.{Wanted, AsksNoFiles}
 use Rattle.gkey_cmd.specs.Texts.{usage, out_of_memory, write_failed, read_failed, refused_text}
 use Rattle.gkey_cmd.specs.HowFar.{LeavesFiles, StopsReading}
 use Rattle.gkey_cmd.specs.Failing.{HasFailed}
@@ -21,7 +21,8 @@ use Rattle.gkey_cmd.specs.declared.ending.Refusal.{Refusal}
 pub record IsRun {S O E : Type 0} (shelf : Shelf.Ghosts S) (out : Sink.Ghosts O) (err : Sink.Ghosts E) (command : Option Wanted) (limits : Limits)
     (shelf_before shelf_after : S) (out_before out_after : O) (err_before err_after : E) (status : ℕ) : Type 0 where
   -- Where the files are told that the command goes by, the run writes what goes with the words and the files, unless a device
-  -- fails or memory is wanting. They are the files of the shelf, and a demo's own texts.
+  -- fails or memory is wanting. They are the files of the shelf, and a demo's own texts; help and version go by none, and so this
+  -- holds of them whatever the shelf tells.
   pub written : IfSome (files_for command (shelf.held shelf_before)) (λ files. status ≢ 3 → status ≢ 4 → status ≢ 5 →
       (output error : List ℕ) × WritesFor command files limits status output error
       × TookAll out out_before out_after output × Sent err err_before err_after error)
@@ -40,7 +41,8 @@ pub record IsRun {S O E : Type 0} (shelf : Shelf.Ghosts S) (out : Sink.Ghosts O)
   -- graph that is added to it, `more`, that graph was asked for last, and of its bytes fewer than 65,536 are read beyond the one
   -- at which it is refused, under the limits that are left to it; else the key
   -- file or the proof file that is refused was asked for last, or the key file where a word names no entity or there are too many
-  -- pairs, and no more than one byte is read beyond its limit. A demo asks the shelf for nothing.
+  -- pairs, and no more than one byte is read beyond its limit. A demo asks the shelf for nothing. Help and version are never
+  -- refused.
   pub stops_reading : status ≡ 2 → (refusal : Refusal) × Sent err err_before err_after (refused_text refusal)
       × IfSome (files_for command (shelf.held shelf_before)) (λ files. IsRefused command files limits refusal)
       × StopsReading shelf shelf_before shelf_after command limits refusal
@@ -53,12 +55,13 @@ pub record IsRun {S O E : Type 0} (shelf : Shelf.Ghosts S) (out : Sink.Ghosts O)
       × TookLess out out_before out_after output
       × IfSome (files_for command (shelf.held shelf_before)) (λ files. IsAnswered command files limits answer output))
   pub wrote : status ≢ 4 → out.faults out_after ≡ out.faults out_before
-  -- 0, 1 and 4 come after the last file: it was asked for last, and no more than one byte is read beyond its limit. A demo asks
-  -- the shelf for nothing.
+  -- 0, 1 and 4 come after the last file: it was asked for last, and no more than one byte is read beyond its limit. A demo, help
+  -- and version ask the shelf for nothing.
   pub leaves_files : IsAnswer status ⊎ (status ≡ 4) → (wanted : Wanted) × (command ≡ Some wanted)
       × LeavesFiles shelf shelf_before shelf_after wanted limits
-  -- A demo leaves the shelf as it was, whatever its status, and 3 is none of it.
-  pub demo : (n : ℕ) → command ≡ Some (Demonstrating n) → (shelf_after ≡ shelf_before) × (status ≢ 3)
+  -- Where the words ask the shelf for nothing, it is left as it was, whatever the status, and 3 is none of it: so it is of a
+  -- demo, of help and version, and of words that ask for no command.
+  pub asks_no_files : AsksNoFiles command → (shelf_after ≡ shelf_before) × (status ≢ 3)
   -- 5 may come at any time.
   pub no_memory : status ≡ 5 → Sent err err_before err_after out_of_memory
   -- 64: exactly where the words ask for no command.

@@ -5,8 +5,8 @@ use Rattle.gk_base.specs.declared.limits.Limits.{Limits}
 use Rattle.gk_base.specs.declared.term.Triple.{Triple}
 use Rattle.gk_io.specs.Files.{bytes_of}
 use Rattle.key_file.specs.KeyShape.{KeyShape}
-use Rattle.gkey_cmd.specs.Commands.{Wanted, Matching, Proving, Checking, Converting, Demonstrating, Merging, Explaining, Growing, demo_graph_name, demo_keys_name, files_of}
-use Rattle.gkey_cmd.specs.Texts.{usage, refused_text}
+use Rattle.gkey_cmd.specs.Commands.{Wanted, Matching, Proving, Checking, Converting, Demonstrating, Merging, Explaining, Growing, Helping, TellingVersion, demo_graph_name, demo_keys_name, files_of}
+use Rattle.gkey_cmd.specs.Texts.{usage, help_text, version_text, refused_text}
 use Rattle.gkey_cmd.specs.Reading.{NamedFiles, GraphSays, KeyFileSays, ProofFileSays, left_by, AllAccepted, FirstRefused}
 use Rattle.proof_graph.specs.Steps.{StepShape}
 use Rattle.proof_graph.specs.CanonicalProof.{proof_text}
@@ -66,6 +66,8 @@ HasMorePairs limits files (Demonstrating n) = ChaseHasMorePairs limits files dem
 HasMorePairs limits files (Merging graph keys) = ChaseHasMorePairs limits files graph keys
 HasMorePairs limits files (Explaining graph keys first second) = ChaseHasMorePairs limits files graph keys
 HasMorePairs limits files (Growing graph more keys) = GrowthHasMorePairs limits files graph more keys
+HasMorePairs limits files Helping = ⊥
+HasMorePairs limits files TellingVersion = ⊥
 
 -- of the words for entities that a command has, this is the first that names none of its accepted graph
 abbrev pub LacksEntity : Limits → NamedFiles → Wanted → Asked → Type 0
@@ -80,6 +82,8 @@ LacksEntity limits files (Explaining graph keys first second) First =
 LacksEntity limits files (Explaining graph keys first second) Second =
     (triples : List Triple) × GraphSays limits (bytes_of files graph) (Ok triples) × NamesOne triples first × ¬ (NamesOne triples second)
 LacksEntity limits files (Growing graph more keys) asked = ⊥
+LacksEntity limits files Helping asked = ⊥
+LacksEntity limits files TellingVersion asked = ⊥
 
 -- each word for an entity that a command has names one of its accepted graph
 abbrev pub HasEntities : Limits → NamedFiles → Wanted → Type 0
@@ -92,6 +96,8 @@ HasEntities limits files (Merging graph keys) = ⊤
 HasEntities limits files (Explaining graph keys first second) =
     (triples : List Triple) × GraphSays limits (bytes_of files graph) (Ok triples) × NamesOne triples first × NamesOne triples second
 HasEntities limits files (Growing graph more keys) = ⊤
+HasEntities limits files Helping = ⊤
+HasEntities limits files TellingVersion = ⊤
 
 -- the answer of a command whose files are accepted and lead to no more pairs than the limit, and its output
 abbrev pub Answers : Limits → NamedFiles → Wanted → Answer → List ℕ → Type 0
@@ -136,6 +142,12 @@ Answers limits files (Growing graph more keys) Given output =
     × IsReport (triples ++ added) key_list output
 Answers limits files (Growing graph more keys) NotAccepted output = ⊥
 Answers limits files (Growing graph more keys) NotTheSame output = ⊥
+Answers limits files Helping Given output = output ≡ help_text
+Answers limits files Helping NotAccepted output = ⊥
+Answers limits files Helping NotTheSame output = ⊥
+Answers limits files TellingVersion Given output = output ≡ version_text
+Answers limits files TellingVersion NotAccepted output = ⊥
+Answers limits files TellingVersion NotTheSame output = ⊥
 
 -- A command whose files are all accepted is refused so: by the first of its words for entities that names none, or, where each
 -- names one, by too many pairs.

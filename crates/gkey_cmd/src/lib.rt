@@ -1,6 +1,6 @@
-//! The commands of `gkey`, whole but for the system's files and streams: what the words ask for, the files in the order
-//! in which they are read, the chase or the checker, and the one text that is written at the end. `run` is all that the program does;
-//! its contract relates the words and the files to status, output and error text, and gives each answer its cause.
+//! The commands of `gkey`, whole but for the system's files and streams: what the words ask for, the files in the order in which
+//! they are read, the chase or the checker, and the one text that is written at the end. `run` is all that the program does; its
+//! contract relates the words and the files to status, output and error text, and gives each answer its cause.
 //!
 //! - `words`: the commands and the words that ask for them
 //! - `file`: the files that a command reads
@@ -8,7 +8,7 @@
 //! - `matched`, `proved`, `checked`, `converted`, `counted`, `merged`, `explained`, `grown`: what each command prints
 //! - `entities`: which entity of the graph a word names
 //! - `ending`: how a run ends, and what it leaves
-//! - `texts`: each status with its meaning and the text for the error stream
+//! - `texts`: each status with its meaning and the text for the error stream, and the texts of help and version
 //! - `top`: `run`
 #![tactic(auto)]
 

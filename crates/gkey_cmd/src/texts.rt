@@ -1,9 +1,9 @@
-//! Each status of the program, with its meaning and the text that goes to the error stream with it. No other file has such a
-//! status or text, but that what is wrong with a line is said by the fault itself, in `gk_base`, `key_lang` and `proof_graph`,
-//! and what is wrong with a step of a proof by the reason, in `proof_check`.
+//! Each status of the program, with its meaning and the text that goes to the error stream with it; and the texts of `--help`
+//! and `--version`. No other file has such a status or text, but that what is wrong with a line is said by the fault itself, in
+//! `gk_base`, `key_lang` and `proof_graph`, and what is wrong with a step of a proof by the reason, in `proof_check`.
 
 ghost use Rattle.std.specs.Prelude.{◌≡◌, IfOk};
-ghost use Rattle.gkey_cmd.specs.Texts.{file_text, read_failed, line_text, no_entity_text, pairs_text, refused_text};
+ghost use Rattle.gkey_cmd.specs.Texts.{help_text, version_text, file_text, read_failed, line_text, no_entity_text, pairs_text, refused_text};
 
 use crate::ending::{Asked, Refusal};
 use crate::file::File;
@@ -43,7 +43,86 @@ pub(crate) const NO_COMMAND: u8 = 64;
 
 /// The text of `NO_COMMAND`.
 pub(crate) const USAGE: &[u8] =
-    b"usage:\n  gkey match [--workers N] GRAPH KEYS\n  gkey prove [--workers N] GRAPH KEYS\n  gkey check GRAPH KEYS PROOF\n  gkey convert PROOF\n  gkey demo N\n  gkey grow [--workers N] GRAPH MORE KEYS\n  gkey merge [--workers N] GRAPH KEYS\n  gkey why [--workers N] GRAPH KEYS A B\n";
+    b"usage:\n  gkey match [--workers N] GRAPH KEYS\n  gkey prove [--workers N] GRAPH KEYS\n  gkey check GRAPH KEYS PROOF\n  gkey convert PROOF\n  gkey demo N\n  gkey grow [--workers N] GRAPH MORE KEYS\n  gkey merge [--workers N] GRAPH KEYS\n  gkey why [--workers N] GRAPH KEYS A B\n  gkey --help\n  gkey --version\n";
+
+/// The text of `--version`. The version stands here alone in the code.
+const VERSION: &[u8] = b"gkey 0.1.0\n";
+
+/// The text of `--help`.
+const HELP: &[u8] = b"\
+gkey: finds the entities of a graph that keys make the same, and proves it
+
+usage:
+  gkey match [--workers N] GRAPH KEYS
+      prints the classes of entities that are the same
+  gkey prove [--workers N] GRAPH KEYS
+      prints a proof of all that is the same
+  gkey check GRAPH KEYS PROOF
+      says that every step of a proof holds, or which does not and why
+  gkey convert PROOF
+      prints a proof of either version in version 2
+  gkey demo N
+      matches a graph of N pairs of entities that it makes, and prints counts
+  gkey grow [--workers N] GRAPH MORE KEYS
+      prints the classes of GRAPH and MORE together
+  gkey merge [--workers N] GRAPH KEYS
+      prints the graph with one entity in the place of each class
+  gkey why [--workers N] GRAPH KEYS A B
+      prints a proof that A and B are the same, or that they are not
+  gkey --help
+      prints this text
+  gkey --version
+      prints the version
+
+words:
+  GRAPH  a graph in N-Triples
+  MORE   a graph in N-Triples that is added to GRAPH
+  KEYS   a key file
+  PROOF  a proof file, as prove, why and convert print it
+  A, B   entities of GRAPH, spelled as in N-Triples: '<urn:a>', '_:b'
+  N      of --workers: how many workers search, 1 to 64, and 4 without it
+         of demo: how many pairs of entities, 1 to 100000
+
+limits:
+  GRAPH  536870912 bytes, 4194304 triples
+  MORE   536870912 bytes, and as many triples as GRAPH leaves
+  KEYS   1048576 bytes, 64 keys, each of 16 nodes and 32 triples
+  PROOF  536870912 bytes
+  pairs  67108864 candidate pairs of entities
+
+status:
+   0  the command did what it is for
+   1  the proof is not accepted, or A and B are not the same
+   2  an input is refused
+   3  a file could not be read
+   4  the output could not be written whole
+   5  no memory was to be had
+   6  the system did not give the program its words
+  64  the words ask for no command
+
+The guide is docs/GUIDE.md, and the manual page docs/gkey.1.
+";
+
+/// The text of `--help`, in lines of at most 80 characters.
+fn help() -> &'static [u8]
+    ensures { result.now ≡ help_text }
+{
+    HELP
+}
+
+/// What `--help` prints.
+pub(crate) fn help_text(alloc: Global) -> Result<Vec<u8>, NoMemory>
+    ensures { IfOk result (λ text. text.items ≡ help_text) }
+{
+    Ok(help().to_vec(alloc)?)
+}
+
+/// What `--version` prints.
+pub(crate) fn version_text(alloc: Global) -> Result<Vec<u8>, NoMemory>
+    ensures { IfOk result (λ text. text.items ≡ version_text) }
+{
+    Ok(VERSION.to_vec(alloc)?)
+}
 
 /// What a text calls a file.
 fn file_text(file: File) -> &'static [u8]

@@ -8,8 +8,9 @@ ghost use Rattle.gkey_cmd.specs.Run.{IsRun};
 
 use crate::ending::{Answer, Ending, finish};
 use crate::order::{checked, converted, demonstrated, explained, grown, matched, merged, proved};
+use crate::texts::{help_text, version_text};
 use crate::words::{Command, WORKERS, read_words};
-use gk_base::{Limits, Text};
+use gk_base::{Limits, NoMemory, Text};
 use gk_io::{Shelf, Sink};
 use std::alloc::Global;
 use std::sync::Wait;
@@ -36,6 +37,16 @@ fn answered(answer: Result<(Answer, Vec<u8>), Ending>) -> Ending
     }
 }
 
+/// The ending of a command that goes by no file, with its text, or with want of memory for it.
+fn said(text: Result<Vec<u8>, NoMemory>) -> Ending
+    ensures { MatchResult text (λ t. result ≡ Ending.Done Answer.Given t) (λ _. result ≡ Ending.NoMemory) }
+{
+    match text {
+        Ok(words) => Ending::Done(Answer::Given, words),
+        Err(NoMemory) => Ending::NoMemory,
+    }
+}
+
 /// How a run ends before anything is written.
 fn decide<Rt: Threads + Wait + Sync, S: Shelf, G: Gate>(
     rt: &Rt,
@@ -47,7 +58,7 @@ fn decide<Rt: Threads + Wait + Sync, S: Shelf, G: Gate>(
 ) -> Ending
     requires { AreAtMostStandard limits.now }
     ensures caused { Caused S.Shelf shelf.old shelf.new (wanted words.now) limits.now result }
-    ensures demo { LeavesShelf shelf.old shelf.new (wanted words.now) result }
+    ensures asks_no_files { LeavesShelf shelf.old shelf.new (wanted words.now) result }
 {
     match read_words(words) {
         None => Ending::NoCommand,
@@ -96,6 +107,8 @@ fn decide<Rt: Threads + Wait + Sync, S: Shelf, G: Gate>(
                 keys,
             },
         ) => given(grown(rt, alloc, shelf, graph, more, keys, limits, workers, gate)),
+        Some(Command::Help) => said(help_text(alloc)),
+        Some(Command::Version) => said(version_text(alloc)),
     }
 }
 
@@ -104,7 +117,7 @@ fn decide<Rt: Threads + Wait + Sync, S: Shelf, G: Gate>(
 ///
 /// The words are those after the program's name. The files are found and read in their order, up to the first that
 /// fails or is refused; then the chase runs and its text is made; then it is written. A demo reads its own texts, and no
-/// shelf. Each worker of the chase passes the gate before each search.
+/// shelf; `--help` and `--version` read nothing. Each worker of the chase passes the gate before each search.
 pub fn run_gated<Rt: Threads + Wait + Sync, S: Shelf, O: Sink, E: Sink, G: Gate>(
     rt: &Rt,
     alloc: Global,
@@ -123,13 +136,13 @@ pub fn run_gated<Rt: Threads + Wait + Sync, S: Shelf, O: Sink, E: Sink, G: Gate>
 }
 
 /// Does all that the program does, with its own limits, and gives the status: 0 where it is done, 1 where a proof is not
-/// accepted or two entities are not the same, 2 where an input is refused, 3 where a file could not be read, 4 where the output could not be written, 5 for
-/// want of memory, 64 where the words ask for no command. What it leaves at each status, and why, is `IsRun` in
-/// `specs/Run.antt`.
+/// accepted or two entities are not the same, 2 where an input is refused, 3 where a file could not be read, 4 where the
+/// output could not be written, 5 for want of memory, 64 where the words ask for no command. What it leaves at each status,
+/// and why, is `IsRun` in `specs/Run.antt`.
 ///
 /// The words are those after the program's name. The files are found and read in their order, up to the first that
 /// fails or is refused; then the chase runs and its text is made; then it is written. A demo reads its own texts, and no
-/// shelf.
+/// shelf; `--help` and `--version` read nothing.
 pub fn run<Rt: Threads + Wait + Sync, S: Shelf, O: Sink, E: Sink>(
     rt: &Rt,
     alloc: Global,

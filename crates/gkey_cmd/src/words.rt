@@ -74,6 +74,10 @@ pub enum Command<'w> {
         more: &'w Text,
         keys: &'w Text,
     },
+    /// Print what the program is, how it is called, and what its statuses mean.
+    Help,
+    /// Print the version.
+    Version,
 }
 
 /// The number from 1 to `most`, if the word is one in decimal, without sign and without leading zero.
@@ -146,6 +150,20 @@ fn three_files<'w>(
     }
 }
 
+/// The command that this word alone asks for, if there is one.
+fn one_word<'w>(word: &Text) -> Option<Command<'w>>
+    ensures { let words = word.now ∷ [] in
+        MatchOption result (wanted words ≡ None) (IsCommand words) }
+{
+    if word.bytes() == b"--help".as_slice() {
+        Some(Command::Help)
+    } else if word.bytes() == b"--version".as_slice() {
+        Some(Command::Version)
+    } else {
+        None
+    }
+}
+
 /// The command that the words after the program's name ask for. None comes exactly where they ask for none. It takes
 /// no memory.
 pub fn read_words<'w>(words: &'w [Text]) -> Option<Command<'w>>
@@ -194,6 +212,7 @@ pub fn read_words<'w>(words: &'w [Text]) -> Option<Command<'w>>
         [command, n] if command.bytes() == b"demo".as_slice() => Some(Command::Demo {
             n: number_to(n, MOST_PAIRS)?,
         }),
+        [command] => one_word(command),
         _ => None,
     }
 }

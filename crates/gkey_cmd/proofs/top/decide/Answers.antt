@@ -1,7 +1,7 @@
--- A demo ends by its own texts, and leaves the shelf as it is.
+-- A demo ends by its own texts, help and version by none, and these leave the shelf as it is.
 use Rattle.gkey_cmd.specs.Commands.{wanted}
 use Rattle.gkey_cmd.specs.Endings.{DemoStops}
-use Rattle.gkey_cmd.proofs.Deciding.{given_ends, demo_caused}
+use Rattle.gkey_cmd.proofs.Deciding.{given_ends, demo_caused, help_caused, version_caused}
 use Rattle.gkey_cmd.proofs.top.decide.Goals as goal
 
 pub returns-in-Some-Demo-clause-caused : goal.returns-in-Some-Demo-clause-caused
@@ -11,3 +11,16 @@ returns-in-Some-Demo-clause-caused g c =
     let asked = rw c.in-Some-Demo.field-0-is at c.in-Some-Demo.ensures in
     demo_caused g.S.Shelf c.args.shelf.now limits (wanted c.args.words.now) n asked.0 c.given-in-Some-Demo.result
     (given_ends (DemoStops n limits) c.demonstrated.result c.given-in-Some-Demo.result c.given-in-Some-Demo.ensures c.demonstrated.ensures)
+
+-- Help and version go by no file.
+pub returns-in-Some-Help-clause-caused : goal.returns-in-Some-Help-clause-caused
+returns-in-Some-Help-clause-caused g c =
+    let asked = rw c.in-Some-Help.field-0-is at c.in-Some-Help.ensures in
+    help_caused g.S.Shelf c.args.shelf.now c.args.limits.now (wanted c.args.words.now) asked
+    c.help_text.result c.help_text.ensures c.said.result c.said.ensures
+
+pub returns-in-Some-Version-clause-caused : goal.returns-in-Some-Version-clause-caused
+returns-in-Some-Version-clause-caused g c =
+    let asked = rw c.in-Some-Version.field-0-is at c.in-Some-Version.ensures in
+    version_caused g.S.Shelf c.args.shelf.now c.args.limits.now (wanted c.args.words.now) asked
+    c.version_text.result c.version_text.ensures c.said-in-Some-Version.result c.said-in-Some-Version.ensures
