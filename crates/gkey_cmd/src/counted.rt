@@ -41,7 +41,7 @@ fn line_of<Rt: Threads + Wait + Sync, G: Gate>(
     ensures stop { IfErr result (λ stop. (triples : List AnyTriple) → StandFor rows triples → IsRightChaseStop triples keys.now limit stop) }
 {
     law_rows();
-    let numbered = number(alloc, rows, keys)?;
+    let numbered = number(rt, alloc, workers, rows, keys)?;
     let _names = numbered.graph.names();
     let triples = numbered.graph.rows().len() as u64;
     let prepared = prepare(rt, alloc, numbered.graph, numbered.patterns, limit)?;

@@ -160,7 +160,7 @@ pub fn explain_files<Rt: Threads + Wait + Sync, G: Gate>(
 {
     law_rows();
     law_proof();
-    let numbered = number(alloc, rows, keys)?;
+    let numbered = number(rt, alloc, workers, rows, keys)?;
     let (a, b) = two_entities(alloc, &numbered, first, second)?;
     match reason(rt, alloc, numbered, keys.keys(), a, b, limit, workers, gate) {
         Ok(Some(text)) => Ok((Answer::Given, text)),

@@ -43,7 +43,7 @@ fn grown_report<Rt: Threads + Wait + Sync, G: Gate>(
     ensures stop { IfErr result (λ stop. (triples : List AnyTriple) → StandFor rows triples → IsRightChaseStop triples keys.now limit stop) }
 {
     law_rows();
-    let growth = number_growth(alloc, rows, first, keys)?;
+    let growth = number_growth(rt, alloc, workers, rows, first, keys)?;
     let grown = grow(
         rt,
         alloc,

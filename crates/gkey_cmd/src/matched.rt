@@ -39,7 +39,7 @@ fn report_of<Rt: Threads + Wait + Sync, G: Gate>(
     ensures stop { IfErr result (λ stop. (triples : List AnyTriple) → StandFor rows triples → IsRightChaseStop triples keys.now limit stop) }
 {
     law_rows();
-    let numbered = number(alloc, rows, keys)?;
+    let numbered = number(rt, alloc, workers, rows, keys)?;
     let labels = classes(
         rt,
         alloc,

@@ -21,6 +21,7 @@ use crate::grown::grow_files;
 use crate::matched::match_files;
 use crate::merged::merge_files;
 use crate::proved::prove_files;
+use crate::words::WORKERS;
 use demo_graph::demo_texts;
 use gk_base::{Limits, NoMemory, Stop, Text};
 use gk_io::{Failed, Shelf, SureShelf};
@@ -85,8 +86,10 @@ fn read_proof<S: Shelf>(
 
 /// The rows of the graph and the keys, or the ending of a run that can't have them: the graph comes first, then the key
 /// file.
-fn read_graph_and_keys<S: Shelf>(
+fn read_graph_and_keys<Rt: Threads, S: Shelf>(
+    rt: &Rt,
     alloc: Global,
+    threads: u32,
     shelf: &mut S,
     graph: &Text,
     keys: &Text,
@@ -98,7 +101,7 @@ fn read_graph_and_keys<S: Shelf>(
     ensures ends { IfErr result (Stopped S.Shelf shelf.old shelf.new (Matching graph.now keys.now) limits.now) }
     ensures before { IfErr result IsBeforeChase }
 {
-    let rows = read_rows(alloc, shelf, graph, limits)?;
+    let rows = read_rows(rt, alloc, threads, shelf, graph, limits)?;
     let read = read_keys(alloc, shelf, keys, limits)?;
     Ok((rows, read))
 }
@@ -118,8 +121,10 @@ fn left_by(limits: &Limits, rows: &Rows) -> Limits
 }
 
 /// The rows of a graph behind those that are there, under these limits, or the ending of a run that can't have them.
-fn read_more<S: Shelf>(
+fn read_more<Rt: Threads, S: Shelf>(
+    rt: &Rt,
     alloc: Global,
+    threads: u32,
     shelf: &mut S,
     name: &Text,
     limits: &Limits,
@@ -131,7 +136,7 @@ fn read_more<S: Shelf>(
     ensures goes_on { IfOk result (ReadMore S.Shelf shelf.old shelf.new limits.now name.now rows) }
     ensures ends { IfErr result (EndsAt S.Shelf shelf.old shelf.new limits.now File.More name.now) }
 {
-    match read_more_rows(alloc, shelf, name, limits, rows) {
+    match read_more_rows(rt, alloc, threads, shelf, name, limits, rows) {
         Ok(grown) => Ok(grown),
         Err(stop) => Err(more_ending(stop)),
     }
@@ -140,8 +145,10 @@ fn read_more<S: Shelf>(
 /// The rows of two graphs, those of the second behind those of the first, and the keys, or the ending of a run that can't have
 /// them: the graph comes first, then the one that is added to it, under what the first leaves of the limits, then the key
 /// file.
-fn read_graphs_and_keys<S: Shelf>(
+fn read_graphs_and_keys<Rt: Threads, S: Shelf>(
+    rt: &Rt,
     alloc: Global,
+    threads: u32,
     shelf: &mut S,
     graph: &Text,
     more: &Text,
@@ -154,9 +161,9 @@ fn read_graphs_and_keys<S: Shelf>(
     ensures first { IfOk result (λ r. r.0.first ≤ length r.0.rows.rows.items) }
     ensures ends { IfErr result (Stopped S.Shelf shelf.old shelf.new (Growing graph.now more.now keys.now) limits.now) }
 {
-    let first = read_rows(alloc, shelf, graph, limits)?;
+    let first = read_rows(rt, alloc, threads, shelf, graph, limits)?;
     let left = left_by(limits, &first);
-    let both = read_more(alloc, shelf, more, &left, first)?;
+    let both = read_more(rt, alloc, threads, shelf, more, &left, first)?;
     let key_list = read_keys(alloc, shelf, keys, limits)?;
     Ok((both, key_list))
 }
@@ -178,7 +185,7 @@ pub(crate) fn matched<Rt: Threads + Wait + Sync, S: Shelf, G: Gate>(
     ensures { let Stops = Stopped S.Shelf shelf.old shelf.new (Matching graph.now keys.now) limits.now in
         MatchResult result (λ text. Stops (Ending.Done Answer.Given text)) Stops }
 {
-    let (rows, read) = read_graph_and_keys(alloc, shelf, graph, keys, limits)?;
+    let (rows, read) = read_graph_and_keys(rt, alloc, workers, shelf, graph, keys, limits)?;
     match_files(rt, alloc, rows, &read, limits.pairs, workers, gate)
 }
 
@@ -198,7 +205,7 @@ pub(crate) fn proved<Rt: Threads + Wait + Sync, S: Shelf, G: Gate>(
     ensures { let Stops = Stopped S.Shelf shelf.old shelf.new (Proving graph.now keys.now) limits.now in
         MatchResult result (λ text. Stops (Ending.Done Answer.Given text)) Stops }
 {
-    let (rows, read) = read_graph_and_keys(alloc, shelf, graph, keys, limits)?;
+    let (rows, read) = read_graph_and_keys(rt, alloc, workers, shelf, graph, keys, limits)?;
     prove_files(rt, alloc, rows, &read, limits.pairs, workers, gate)
 }
 
@@ -218,7 +225,7 @@ pub(crate) fn merged<Rt: Threads + Wait + Sync, S: Shelf, G: Gate>(
     ensures { let Stops = Stopped S.Shelf shelf.old shelf.new (Merging graph.now keys.now) limits.now in
         MatchResult result (λ text. Stops (Ending.Done Answer.Given text)) Stops }
 {
-    let (rows, read) = read_graph_and_keys(alloc, shelf, graph, keys, limits)?;
+    let (rows, read) = read_graph_and_keys(rt, alloc, workers, shelf, graph, keys, limits)?;
     merge_files(rt, alloc, rows, &read, limits.pairs, workers, gate)
 }
 
@@ -241,7 +248,7 @@ pub(crate) fn explained<Rt: Threads + Wait + Sync, S: Shelf, G: Gate>(
     ensures { let Stops = Stopped S.Shelf shelf.old shelf.new (Explaining graph.now keys.now first.now second.now) limits.now in
         MatchResult result (λ r. Stops (Ending.Done r.0 r.1)) Stops }
 {
-    let (rows, read) = read_graph_and_keys(alloc, shelf, graph, keys, limits)?;
+    let (rows, read) = read_graph_and_keys(rt, alloc, workers, shelf, graph, keys, limits)?;
     explain_files(
         rt,
         alloc,
@@ -273,7 +280,7 @@ pub(crate) fn grown<Rt: Threads + Wait + Sync, S: Shelf, G: Gate>(
     ensures { let Stops = Stopped S.Shelf shelf.old shelf.new (Growing graph.now more.now keys.now) limits.now in
         MatchResult result (λ text. Stops (Ending.Done Answer.Given text)) Stops }
 {
-    let (both, read) = read_graphs_and_keys(alloc, shelf, graph, more, keys, limits)?;
+    let (both, read) = read_graphs_and_keys(rt, alloc, workers, shelf, graph, more, keys, limits)?;
     grow_files(
         rt,
         alloc,
@@ -317,13 +324,14 @@ pub(crate) fn demonstrated<Rt: Threads + Wait + Sync, G: Gate>(
     let graph = Text::from_bytes(alloc, DEMO_GRAPH)?;
     let keys = Text::from_bytes(alloc, DEMO_KEYS)?;
     let mut shelf = demo_shelf(alloc, n)?;
-    let (rows, read) = read_graph_and_keys(alloc, &mut shelf, &graph, &keys, limits)?;
+    let (rows, read) = read_graph_and_keys(rt, alloc, workers, &mut shelf, &graph, &keys, limits)?;
     count_files(rt, alloc, rows, &read, limits.pairs, workers, gate)
 }
 
 /// The answer of `check` and its text, or the ending of a run that has none: the graph comes first, then the key file, then
 /// the proof file, then the checker.
-pub(crate) fn checked<S: Shelf>(
+pub(crate) fn checked<Rt: Threads, S: Shelf>(
+    rt: &Rt,
     alloc: Global,
     shelf: &mut S,
     graph: &Text,
@@ -335,7 +343,7 @@ pub(crate) fn checked<S: Shelf>(
     ensures { let Stops = Stopped S.Shelf shelf.old shelf.new (Checking graph.now keys.now proof.now) limits.now in
         MatchResult result (λ r. Stops (Ending.Done r.0 r.1)) Stops }
 {
-    let numbered_graph = read_rows(alloc, shelf, graph, limits)?;
+    let numbered_graph = read_rows(rt, alloc, WORKERS, shelf, graph, limits)?;
     let key_file = read_keys(alloc, shelf, keys, limits)?;
     let told = read_proof(alloc, shelf, proof, limits)?;
     let answer = check_files(alloc, &numbered_graph, &key_file, &told)?;

@@ -85,7 +85,7 @@ fn proof_of<Rt: Threads + Wait + Sync, G: Gate>(
     law_rows();
     law_chase();
     law_proof();
-    let numbered = number(alloc, rows, keys)?;
+    let numbered = number(rt, alloc, workers, rows, keys)?;
     let prepared = prepare(rt, alloc, numbered.graph, numbered.patterns, limit)?;
     let setup = &prepared.setup;
     let matched = chase_setup(rt, alloc, setup, workers, gate)?;

@@ -77,7 +77,7 @@ fn decide<Rt: Threads + Wait + Sync, S: Shelf, G: Gate>(
             },
         ) => given(proved(rt, alloc, shelf, graph, keys, limits, workers, gate)),
         Some(Command::Check { graph, keys, proof }) => {
-            answered(checked(alloc, shelf, graph, keys, proof, limits))
+            answered(checked(rt, alloc, shelf, graph, keys, proof, limits))
         }
         Some(Command::Convert { proof }) => given(converted(alloc, shelf, proof, limits)),
         Some(Command::Demo { n }) => given(demonstrated(rt, alloc, n, limits, WORKERS, gate)),
