@@ -23,6 +23,16 @@ fn deal_alone(hints: &mut Vec<u32>, count: u32)
     }
 }
 
+/// The hints that a worker begins with: those that it has, or where it begins anew the first pairs.
+fn first_hints(hints: &mut Vec<u32>, count: u32, is_new: bool)
+    ensures { All (λ p. p < count) hints.new.items }
+{
+    let are_pairs = hints.iter().all(|pair| *pair < count);
+    if is_new || !are_pairs {
+        deal_alone(hints, count);
+    }
+}
+
 /// Searches by the present labels for a pair that was taken just now, and settles it.
 fn settle_at_once(chase: &mut Chase<'_>, ticket: Ticket, woken: &mut Woken) -> Settled
     requires ends { PairAt chase.old.setup.task ticket.pair ticket.a ticket.b }
@@ -66,11 +76,13 @@ fn search_next<G: Gate>(
 }
 
 /// Searches until no pair is Ready, without the lock and without views: nothing is entered by another. Woken pairs are
-/// hints, as they are for workers who share.
+/// hints, as they are for workers who share. One that is new to the chase begins with the first pairs, and another with the
+/// hints that it has.
 pub fn work_alone<'a, G: Gate, R: Wait>(
     rt: &R,
     chase: Chase<'a>,
     workspace: Workspace,
+    is_new: bool,
     gate: &G,
 ) -> Chase<'a>
     ensures setup { result.setup ≡ chase.entry.setup }
@@ -80,7 +92,7 @@ pub fn work_alone<'a, G: Gate, R: Wait>(
     let mut workspace = workspace;
     let mut chase = chase;
     let count = chase.setup().pairs().len() as u32;
-    deal_alone(&mut workspace.pending, count);
+    first_hints(&mut workspace.pending, count, is_new);
     for _ in rt.forever() {
         if !search_next(
             &mut chase,

@@ -11,10 +11,11 @@ ghost use Rattle.steal_pool.specs.Bases.{board_over};
 ghost use Rattle.steal_pool.specs.Batches.{IsJob, IsSearched, SettlesBy, pair_in};
 
 use crate::hints::Thief;
-use crate::hunt::{keep_woken, next_hint};
+use crate::hunt::{keep_woken, next_hint, own_hint};
+use crate::pace::Settlement;
 use crate::shared::Shared;
 use crate::workspace::{Job, Progress, Workspace};
-use chase_core::Woken;
+use chase_core::{Settled, Woken};
 use label_board::Board;
 
 /// What a worker does after a turn.
@@ -26,9 +27,24 @@ pub enum Next {
     LookAgain,
     /// It ends: no pair was Ready when it took one last.
     End,
+    /// It ends, since another worker goes on alone.
+    Leave,
+    /// It ends with the others, and goes on alone.
+    GoAlone,
 }
 
-/// Settles a job that was searched, and keeps what that wakes. A job that was not searched stays as it is.
+/// Whether a pair was searched for nothing.
+fn is_wasted(settled: Settled) -> bool {
+    match settled {
+        Settled::Already => true,
+        Settled::Reopened { .. } => true,
+        Settled::Entered(_) => false,
+        Settled::Missed => false,
+    }
+}
+
+/// Settles a job that was searched, and keeps what that wakes. A job that was not searched stays as it is. It answers
+/// whether the search was for nothing.
 fn settle_job(
     shared: &mut Shared<'_>,
     board: &Board,
@@ -36,7 +52,7 @@ fn settle_job(
     woken: &mut Woken,
     pending: &mut Vec<u32>,
     count: u32,
-)
+) -> bool
     requires board { board_over shared.old.chase.setup shared.old.scribe.board ≡ board.now }
     requires place { IsPlace shared.old.chase.setup.widest board.now job.old }
     requires job { IsJob shared.old.chase.setup.task shared.old.chase.book.journal job.old }
@@ -53,16 +69,17 @@ fn settle_job(
 {
     match job.progress {
         Progress::Searched(ticket, outcome) => {
-            shared.settle(board, &mut job.watcher, ticket, &job.view, outcome, woken);
+            let settled = shared.settle(board, &mut job.watcher, ticket, &job.view, outcome, woken);
             keep_woken(pending, woken.list(), count);
             job.progress = Progress::Free;
+            is_wasted(settled)
         }
-        Progress::Taken(_) => {}
-        Progress::Free => {}
+        Progress::Taken(_) => false,
+        Progress::Free => false,
     }
 }
 
-/// Settles the first jobs, in order.
+/// Settles the first jobs, in order. It answers how many were searched for nothing.
 fn settle_all(
     shared: &mut Shared<'_>,
     board: &Board,
@@ -71,7 +88,7 @@ fn settle_all(
     woken: &mut Woken,
     pending: &mut Vec<u32>,
     count: u32,
-)
+) -> usize
     requires board { board_over shared.old.chase.setup shared.old.scribe.board ≡ board.now }
     requires jobs { All (IsJob shared.old.chase.setup.task shared.old.chase.book.journal) jobs.old }
     requires places { All (IsPlace shared.old.chase.setup.widest board.now) jobs.old }
@@ -85,9 +102,12 @@ fn settle_all(
     ensures jobs { All (IsJob shared.new.chase.setup.task shared.new.chase.book.journal) jobs.new }
     ensures places { All (IsPlace shared.old.chase.setup.widest board.now) jobs.new }
 {
+    let mut wasted: usize = 0;
     for k in 0..used.min(jobs.len()) {
-        settle_job(shared, board, &mut jobs[k], woken, pending, count);
+        let is_late = settle_job(shared, board, &mut jobs[k], woken, pending, count);
+        wasted = wasted.saturating_add(usize::from(is_late));
     }
+    wasted
 }
 
 /// Takes a pair for a job that has none. It answers whether it has one now.
@@ -141,8 +161,15 @@ fn fill_job(shared: &mut Shared<'_>, board: &Board, job: &mut Job, hint: Option<
     }
 }
 
-/// The next hint, or none at all in a turn that had none before.
-fn hint_unless(dry: bool, workspace: &mut Workspace, thieves: &[Thief], n: u32) -> Option<u32>
+/// The next hint: none at all in a turn that had none before, and only one of the worker's own where its last settles woke
+/// pairs, which are searched for at once, with no others beside them.
+fn hint_unless(
+    dry: bool,
+    woke: bool,
+    workspace: &mut Workspace,
+    thieves: &[Thief],
+    n: u32,
+) -> Option<u32>
     requires count { workspace.old.count ≡ n }
     requires own { IsOwnDeque n workspace.old.own }
     requires passes { ReachEach n thieves.now workspace.old.steal_passes.items }
@@ -158,7 +185,16 @@ fn hint_unless(dry: bool, workspace: &mut Workspace, thieves: &[Thief], n: u32) 
     if dry {
         return None;
     }
+    if woke {
+        return own_hint(workspace, n);
+    }
     next_hint(workspace, thieves, n)
+}
+
+/// Whether a worker that finds no hint takes no more: it has what its last settles woke, or no pair is Ready while others
+/// search, who may wake more.
+fn has_enough(shared: &Shared<'_>, is_full: bool, others: bool) -> bool {
+    is_full || (others && shared.chase.ready_count() == 0)
 }
 
 /// Takes pairs for the first jobs, at most so many. Without a hint it takes only where a pair is Ready or no other worker
@@ -181,13 +217,15 @@ fn take_all(
     ensures workspace { IsWorkspace (length shared.old.chase.setup.task.pairs) shared.old.chase.setup.widest board.now thieves.now workspace.new }
 {
     let count = workspace.count;
+    let woke = workspace.pace.woke;
     let mut taken = false;
     let mut dry = false;
     workspace.used = most.min(workspace.jobs.len());
     for k in 0..workspace.jobs.len().min(most) {
-        let hint = hint_unless(dry, workspace, thieves, count);
+        let hint = hint_unless(dry, woke, workspace, thieves, count);
         dry = hint.is_none();
-        if dry && others && shared.chase.ready_count() == 0 {
+        let is_through = dry && has_enough(shared, woke && taken, others);
+        if is_through {
             workspace.searches = taken;
             return if taken { Next::Search } else { Next::LookAgain };
         }
@@ -202,27 +240,77 @@ fn take_all(
     Next::Search
 }
 
-/// Lets the next batch be twice as large where others wait for their turns, and a quarter of it where none does: a pair
-/// that waits in a batch is searched by what was known when it was taken.
-pub fn resize(workspace: &mut Workspace, wanted: bool)
+/// Notes how a turn went. The next batch may be twice as large, or a quarter of it where too many searches were for nothing: a
+/// pair that waits in a batch is searched by what was known then.
+pub fn note_turn(workspace: &mut Workspace, turn: Settlement)
     ensures jobs { workspace.new.jobs ≡ workspace.old.jobs }
     ensures workspace { (n widest : ℕ) → (on : SeenBoard) → (thieves : List Thief) → IsWorkspace n widest on thieves workspace.old → IsWorkspace n widest on thieves workspace.new }
 {
-    workspace.size = if wanted {
-        workspace.size.saturating_mul(2).min(workspace.jobs.len())
-    } else {
+    workspace.pace = workspace.pace.after(turn);
+    workspace.size = if turn.is_late() {
         (workspace.size / 4).max(1)
+    } else {
+        workspace.size.saturating_mul(2).min(workspace.jobs.len())
     };
 }
 
-/// Settles what was searched, and takes the next batch: at most a share of what is Ready, so that others find pairs too,
-/// and at least one.
+/// A batch without a pair.
+fn rest(workspace: &mut Workspace)
+    ensures jobs { workspace.new.jobs ≡ workspace.old.jobs }
+    ensures workspace { (n widest : ℕ) → (on : SeenBoard) → (thieves : List Thief) → IsWorkspace n widest on thieves workspace.old → IsWorkspace n widest on thieves workspace.new }
+{
+    workspace.used = 0;
+    workspace.searches = false;
+}
+
+/// Takes no more pairs, where this worker or another is to go on alone; or else the next batch: at most a share of what is
+/// Ready, so that others find pairs too, and at least one.
+fn take_next(
+    shared: &mut Shared<'_>,
+    workspace: &mut Workspace,
+    board: &Board,
+    thieves: &[Thief],
+    others: bool,
+    lone: bool,
+) -> Next
+    requires jobs { All (IsJob shared.old.chase.setup.task shared.old.chase.book.journal) workspace.old.jobs.items }
+    requires workspace { IsWorkspace (length shared.old.chase.setup.task.pairs) shared.old.chase.setup.widest board.now thieves.now workspace.old }
+    ensures ends { result ≡ End → shared.new.chase.table.ready ≡ [] }
+    ensures setup { shared.new.chase.setup ≡ shared.old.chase.setup }
+    ensures book { shared.new.chase.book ≡ shared.old.chase.book }
+    ensures scribe { shared.new.scribe ≡ shared.old.scribe }
+    ensures jobs { All (IsJob shared.old.chase.setup.task shared.old.chase.book.journal) workspace.new.jobs.items }
+    ensures workspace { IsWorkspace (length shared.old.chase.setup.task.pairs) shared.old.chase.setup.widest board.now thieves.now workspace.new }
+{
+    if lone {
+        rest(workspace);
+        return Next::Leave;
+    }
+    if workspace.pace.is_alone() {
+        rest(workspace);
+        return Next::GoAlone;
+    }
+    let share = workspace.share.max(1) as usize;
+    let most = (shared.chase.ready_count() / share).max(1);
+    take_all(
+        shared,
+        workspace,
+        board,
+        thieves,
+        most.min(workspace.size),
+        others,
+    )
+}
+
+/// Settles what was searched, and takes the next batch.
 pub fn settle_and_take(
     shared: &mut Shared<'_>,
     workspace: &mut Workspace,
     board: &Board,
     thieves: &[Thief],
     others: bool,
+    wanted: bool,
+    lone: bool,
 ) -> Next
     requires board { board_over shared.old.chase.setup shared.old.scribe.board ≡ board.now }
     requires jobs { All (IsJob shared.old.chase.setup.task shared.old.chase.book.journal) workspace.old.jobs.items }
@@ -235,7 +323,9 @@ pub fn settle_and_take(
     ensures jobs { All (IsJob shared.old.chase.setup.task shared.new.chase.book.journal) workspace.new.jobs.items }
     ensures workspace { IsWorkspace (length shared.old.chase.setup.task.pairs) shared.old.chase.setup.widest board.now thieves.now workspace.new }
 {
-    settle_all(
+    let found = shared.chase.book().journal().len();
+    let settled = workspace.used;
+    let wasted = settle_all(
         shared,
         board,
         workspace.jobs.as_mut_slice(),
@@ -244,16 +334,18 @@ pub fn settle_and_take(
         &mut workspace.pending,
         workspace.count,
     );
-    let share = workspace.share.max(1) as usize;
-    let most = (shared.chase.ready_count() / share).max(1);
-    let next = take_all(
-        shared,
-        workspace,
-        board,
-        thieves,
-        most.min(workspace.size),
-        others,
-    );
+    let left = shared.chase.book().journal().len();
+    let woke = !workspace.pending.is_empty();
+    let turn = Settlement {
+        found,
+        left,
+        settled,
+        wasted,
+        woke,
+        wanted,
+    };
+    note_turn(workspace, turn);
+    let next = take_next(shared, workspace, board, thieves, others, lone);
     shared.holds();
     next
 }

@@ -29,24 +29,22 @@ fn steal_any(
     None
 }
 
-/// The hint that a worker pushed last, or else one of another worker, in the order of their numbers.
-fn pop_or_steal(
-    own: &mut HintDeque,
-    thieves: &[Thief],
-    steal_passes: &mut [StealPass],
-    number: u32,
-    count: u32,
-) -> Option<u32>
-    requires own { IsOwnDeque count own.old }
-    requires passes { ReachEach count thieves.now steal_passes.old }
-    ensures own { IsOwnDeque count own.new }
-    ensures passes { ReachEach count thieves.now steal_passes.new }
-    ensures hint { IfSome result (λ x. x < count) }
+/// A worker's own next hint: the last of the pairs that wait to be pushed, or the one that was pushed last.
+pub fn own_hint(workspace: &mut Workspace, n: u32) -> Option<u32>
+    requires own { IsOwnDeque n workspace.old.own }
+    requires pending { All (λ p. p < n) workspace.old.pending.items }
+    ensures count { workspace.new.count ≡ workspace.old.count }
+    ensures own { IsOwnDeque n workspace.new.own }
+    ensures passes { workspace.new.steal_passes ≡ workspace.old.steal_passes }
+    ensures pending { All (λ p. p < n) workspace.new.pending.items }
+    ensures jobs { workspace.new.jobs ≡ workspace.old.jobs }
+    ensures spare { workspace.new.spare ≡ workspace.old.spare }
+    ensures hint { IfSome result (λ p. p < n) }
 {
-    if let Some(hint) = pop(own) {
+    if let Some(hint) = workspace.pending.pop() {
         return Some(hint);
     }
-    steal_any(thieves, steal_passes, number, count)
+    pop(&mut workspace.own)
 }
 
 /// The next hint: the last of the pairs that wait to be pushed, the one that was pushed last, or another worker's.
@@ -63,11 +61,10 @@ pub fn next_hint(workspace: &mut Workspace, thieves: &[Thief], n: u32) -> Option
     ensures spare { workspace.new.spare ≡ workspace.old.spare }
     ensures hint { IfSome result (λ p. p < n) }
 {
-    if let Some(hint) = workspace.pending.pop() {
+    if let Some(hint) = own_hint(workspace, n) {
         return Some(hint);
     }
-    pop_or_steal(
-        &mut workspace.own,
+    steal_any(
         thieves,
         workspace.steal_passes.as_mut_slice(),
         workspace.number,

@@ -14,6 +14,8 @@
 //! - `search`: searches by labels of the board
 //! - `turns`: a turn of a worker
 //! - `batch`: what a worker does with the chase in a turn
+//! - `pace`: how a worker's turns go
+//! - `signs`: what workers tell one another without the lock
 //! - `alone`: what a worker does that has a chase for itself
 //! - `hunt`: where a worker looks for a hint
 //! - `crew_member`: a worker with its pass of the lock
@@ -33,9 +35,11 @@ mod gate;
 mod hint_rule;
 mod hints;
 mod hunt;
+mod pace;
 mod run;
 mod search;
 mod shared;
+mod signs;
 mod threads;
 mod turns;
 mod worker;

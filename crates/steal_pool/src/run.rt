@@ -8,11 +8,17 @@ use crate::crew::Crew;
 use crate::crew_member::CrewMember;
 use crate::gate::Gate;
 use crate::shared::Shared;
+use crate::signs::Signs;
 use crate::threads::work_all;
+use crate::workspace::Workspace;
 use chase_core::Chase;
 use std::sync::Wait;
-use std::sync::atomic::AtomicU64;
 use std::thread::Threads;
+
+/// The one workspace, or the other.
+fn chosen(other: Option<Workspace>, workspace: Workspace, is_chosen: bool) -> Option<Workspace> {
+    if is_chosen { Some(workspace) } else { other }
+}
 
 /// Lets all workers run to their end, each in a thread of its own, or one worker on the thread that calls, and answers the
 /// chase: over the same setup, with a journal that has gone on from what it was. A worker passes the gate before each
@@ -34,25 +40,26 @@ pub fn run_crew<'a, G: Gate, R: Threads + Wait + Sync>(
         mut home,
     } = crew;
     let alone = members.len() == 1;
-    let in_search = AtomicU64::new(0);
+    let signs = Signs::new();
     work_all(
         rt,
         &lock,
         &board,
         thieves.as_slice(),
         gate,
-        &in_search,
+        &signs,
         members.as_mut_slice(),
     );
     let mut last = None;
     while let Some(member) = members.pop() {
         let CrewMember { pass, workspace } = member;
         home.push_reserved(pass);
-        last = Some(workspace);
+        let is_last = alone || signs.lone() == u64::from(workspace.number) + 1;
+        last = chosen(last, workspace, is_last);
     }
     let Shared { chase, .. } = lock.close(home);
     match last {
-        Some(workspace) if alone => work_alone(rt, chase, workspace, gate),
-        _ => chase,
+        Some(workspace) => work_alone(rt, chase, workspace, alone, gate),
+        None => chase,
     }
 }

@@ -7,9 +7,9 @@ ghost use Rattle.steal_pool.specs.CrewMembers.{IsCrewMember};
 use crate::crew_member::CrewMember;
 use crate::gate::Gate;
 use crate::hints::Thief;
+use crate::signs::Signs;
 use label_board::Board;
 use std::sync::Wait;
-use std::sync::atomic::AtomicU64;
 use std::thread;
 use std::thread::Threads;
 use turn_lock::{Journaled, TurnLock};
@@ -25,14 +25,14 @@ pub trait Work: Journaled {
     /// The board of board.
     ghost board_of: { Self.Base → SeenBoard };
 
-    /// The number counts the workers that search at the time.
+    /// By the signs workers tell one another what they are at.
     fn work<G: Gate, R: Wait>(
         rt: &R,
         lock: &TurnLock<Self>,
         board: &Board,
         thieves: &[Thief],
         gate: &G,
-        in_search: &AtomicU64,
+        signs: &Signs,
         member: &mut CrewMember<Self>,
     )
         requires { IsCrewMember pairs widest board_of lock.now board.now thieves.now member.old }
@@ -46,7 +46,7 @@ pub fn work_all<T: Work + Send, G: Gate, R: Threads + Wait + Sync>(
     board: &Board,
     thieves: &[Thief],
     gate: &G,
-    in_search: &AtomicU64,
+    signs: &Signs,
     members: &mut [CrewMember<T>],
 )
     requires { All (IsCrewMember T.pairs T.widest T.board_of lock.now board.now thieves.now) members.old }
@@ -62,6 +62,6 @@ pub fn work_all<T: Work + Send, G: Gate, R: Threads + Wait + Sync>(
         &|_, member|
             requires { IsCrewMember T.pairs T.widest T.board_of lock.now board.now thieves.now member.now }
             ensures { IsCrewMember T.pairs T.widest T.board_of lock.entry.now board.entry.now thieves.entry.now member.exit.now }
-        { T::work(rt, lock, board, thieves, gate, in_search, member) },
+        { T::work(rt, lock, board, thieves, gate, signs, member) },
     );
 }

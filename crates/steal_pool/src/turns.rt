@@ -5,30 +5,16 @@ ghost use Rattle.turn_lock.specs.Handles.{base_of};
 ghost use Rattle.chase_laws.specs.Core.{name_count};
 ghost use Rattle.steal_pool.specs.Batches.{IsAtWork};
 
-use crate::batch::{Next, resize, settle_and_take};
+use crate::batch::{Next, settle_and_take};
 use crate::crew_member::CrewMember;
 use crate::hints::Thief;
 use crate::hunt::push_kept;
 use crate::shared::Shared;
+use crate::signs::Signs;
 use chase_core::Setup;
 use label_board::Board;
 use std::sync::Wait;
-use std::sync::atomic::{AtomicU64, Ordering};
 use turn_lock::TurnLock;
-
-/// Counts a worker that searches from now on, and did not before.
-fn count_in(in_search: &AtomicU64, before: bool, now: bool) {
-    if now && !before {
-        in_search.fetch_add(1, Ordering::SeqCst);
-    }
-}
-
-/// No longer counts a worker that searched before, and does not now.
-fn count_out(in_search: &AtomicU64, before: bool, now: bool) {
-    if before && !now {
-        in_search.fetch_sub(1, Ordering::SeqCst);
-    }
-}
 
 /// Pushes the pairs that a worker's last settles woke.
 fn push_woken<'a>(
@@ -56,7 +42,7 @@ fn settle_and_take_in_turn<'a, R: Wait>(
     lock: &TurnLock<Shared<'a>>,
     board: &Board,
     thieves: &[Thief],
-    in_search: &AtomicU64,
+    signs: &Signs,
     member: &mut CrewMember<Shared<'a>>,
 ) -> (Next, &'a Setup)
     requires { IsAtWork lock.now board.now thieves.now member.old }
@@ -67,16 +53,29 @@ fn settle_and_take_in_turn<'a, R: Wait>(
     let searched = member.workspace.searches;
     let mut turn = lock.enter(rt, &mut member.pass);
     let shared = turn.value();
-    let others = in_search.load(Ordering::SeqCst) > u64::from(searched);
-    let next = settle_and_take(shared, &mut member.workspace, board, thieves, others);
+    let others = signs.searching() > u64::from(searched);
+    let wanted = lock.is_wanted(&member.pass);
+    let lone = signs.lone() > 0;
+    let next = settle_and_take(
+        shared,
+        &mut member.workspace,
+        board,
+        thieves,
+        others,
+        wanted,
+        lone,
+    );
     let setup = shared.chase.setup();
-    resize(&mut member.workspace, lock.is_wanted(&member.pass));
-    count_in(in_search, searched, member.workspace.searches);
+    if let Next::GoAlone = next {
+        signs.go_alone(member.workspace.number);
+    }
+    signs.count_in(searched, member.workspace.searches);
     lock.leave(turn, &mut member.pass);
     (next, setup)
 }
 
-/// A turn in which the worker's jobs are settled, and the next pairs taken; what woke is pushed after the turn. Whoever
+/// A turn in which the worker's jobs are settled, and the next pairs taken; what woke is pushed after the turn, but
+/// for a worker that goes on alone, which keeps it. Whoever
 /// has the jobs may search for them without the turn, in the setup that is answered with what the worker does next.
 ///
 /// A worker counts as in search from the turn in which it takes a pair, until it is through with a turn that takes none.
@@ -85,7 +84,7 @@ pub fn change_batch<'a, R: Wait>(
     lock: &TurnLock<Shared<'a>>,
     board: &Board,
     thieves: &[Thief],
-    in_search: &AtomicU64,
+    signs: &Signs,
     member: &mut CrewMember<Shared<'a>>,
 ) -> (Next, &'a Setup)
     requires { IsAtWork lock.now board.now thieves.now member.old }
@@ -94,8 +93,11 @@ pub fn change_batch<'a, R: Wait>(
     ensures setup { base_of member.new.pass ≡ Some (result.1.now, board.now) }
 {
     let searched = member.workspace.searches;
-    let (next, setup) = settle_and_take_in_turn(rt, lock, board, thieves, in_search, member);
-    push_woken(lock, board, thieves, member);
-    count_out(in_search, searched, member.workspace.searches);
+    let (next, setup) = settle_and_take_in_turn(rt, lock, board, thieves, signs, member);
+    match next {
+        Next::GoAlone => {}
+        _ => push_woken(lock, board, thieves, member),
+    }
+    signs.count_out(searched, member.workspace.searches);
     (next, setup)
 }

@@ -17,13 +17,13 @@ use crate::hints::Thief;
 use crate::hunt::keep_hint;
 use crate::search::{search_again, search_job};
 use crate::shared::Shared;
+use crate::signs::Signs;
 use crate::threads::Work;
 use crate::turns::change_batch;
 use crate::workspace::{Job, Progress};
 use chase_core::Setup;
 use label_board::Board;
 use std::sync::Wait;
-use std::sync::atomic::{AtomicU64, Ordering};
 use std::thread;
 use turn_lock::TurnLock;
 
@@ -132,14 +132,14 @@ fn look_again<'a, R: Wait>(
     lock: &TurnLock<Shared<'a>>,
     board: &Board,
     thieves: &[Thief],
-    in_search: &AtomicU64,
+    signs: &Signs,
     member: &mut CrewMember<Shared<'a>>,
 )
     requires { IsAtWork lock.now board.now thieves.now member.old }
     ensures { IsAtWork lock.now board.now thieves.now member.new }
 {
     for _ in rt.forever() {
-        if find_hint(lock, board, thieves, member) || in_search.load(Ordering::SeqCst) == 0 {
+        if find_hint(lock, board, thieves, member) || signs.is_quiet() {
             return;
         }
         thread::yield_now();
@@ -160,15 +160,17 @@ impl<'a> Work for Shared<'a> {
         board: &Board,
         thieves: &[Thief],
         gate: &G,
-        in_search: &AtomicU64,
+        signs: &Signs,
         member: &mut CrewMember<Shared<'a>>,
     ) {
         begin(lock, board, thieves, member);
         for _ in rt.forever() {
-            let (next, setup) = change_batch(rt, lock, board, thieves, in_search, member);
+            let (next, setup) = change_batch(rt, lock, board, thieves, signs, member);
             match next {
                 Next::End => return,
-                Next::LookAgain => look_again(rt, lock, board, thieves, in_search, member),
+                Next::Leave => return,
+                Next::GoAlone => return,
+                Next::LookAgain => look_again(rt, lock, board, thieves, signs, member),
                 Next::Search => {
                     for k in 0..member.workspace.used.min(member.workspace.jobs.len()) {
                         if let Progress::Taken(ticket) = member.workspace.jobs[k].progress {

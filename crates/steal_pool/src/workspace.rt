@@ -1,6 +1,7 @@
 //! What a worker has besides its pass of the lock.
 
 use crate::hints::{HintDeque, ThiefPass};
+use crate::pace::Pace;
 use chase_core::{Outcome, Ticket, Woken};
 use label_board::Watcher;
 use paired_search::View;
@@ -56,6 +57,8 @@ pub struct Workspace {
     pub size: usize,
     /// How many of the jobs the present batch uses.
     pub used: usize,
+    /// How its turns go.
+    pub pace: Pace,
     /// Whether the present batch has a pair.
     pub searches: bool,
     pub jobs: Vec<Job>,

@@ -5,6 +5,7 @@ ghost use Rattle.steal_pool.specs.Workspaces.{IsPlace, IsOwnDeque, IsWorkspace, 
 
 use crate::deques::{deal, deques, steal_passes_of, thieves_of};
 use crate::hints::{HintDeque, Thief};
+use crate::pace::Pace;
 use crate::workspace::{Job, Progress, StealPass, Workspace};
 use chase_core::{Setup, Woken};
 use gk_base::NoMemory;
@@ -112,6 +113,7 @@ fn workspace_of(
         share,
         size: 1,
         used: 0,
+        pace: Pace::new(),
         searches: false,
         jobs,
         spare,

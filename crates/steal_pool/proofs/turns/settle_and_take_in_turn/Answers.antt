@@ -44,7 +44,7 @@ returns-clause-at_work g c =
         based = based;
         posts = subst (λ (s : Shared). board_over s.chase.setup s.scribe.board ≡ c.args.board.now) (sym c.value-shared.ensures.value)
             (board_now r.member.base (base_with v.chase.setup v.scribe.board) (base_of c.args.member.now.pass) c.args.board.now r.member.based c.enter-turn.ensures.right.based r.member.posts);
-        workspace = c.resize.ensures.workspace _ _ c.args.board.now c.args.thieves.now done.ensures.workspace;
+        workspace = done.ensures.workspace;
       };
-      jobs = λ B e. subst (λ (Z : Base). All (IsJob Z.0.task (seen c.leave.new.pass)) c.resize.new.workspace.jobs.items) (same_base X B (sym based ∙ e)) (rw (c.leave.ensures.seen.0, c.resize.ensures.jobs) done.ensures.jobs);
+      jobs = λ B e. subst (λ (Z : Base). All (IsJob Z.0.task (seen c.leave.new.pass)) done.new.workspace.jobs.items) (same_base X B (sym based ∙ e)) (rw c.leave.ensures.seen.0 done.ensures.jobs);
     }

@@ -1,4 +1,4 @@
-use Rattle.steal_pool.proofs.batch.resize.Goals as goal
+use Rattle.steal_pool.proofs.batch.note_turn.Goals as goal
 
 pub returns-clause-workspace : goal.returns-clause-workspace
 returns-clause-workspace c = λ n widest on thieves h. record {
