@@ -10,7 +10,7 @@ import subprocess
 import sys
 import tempfile
 
-from pairs import written
+from graphs import written
 from timing import PROGRAM, TOP, built
 
 WORKERS = (4, 4, 4, 2, 3, 8, 64)
@@ -34,8 +34,8 @@ def agree(name, graph, keys, runs):
 def main():
     runs = int(sys.argv[1]) if len(sys.argv) > 1 else 200
     built()
-    for example in sorted((TOP / "examples").iterdir()):
-        agree(example.name, example / "graph.nt", example / "keys.gk", runs)
+    for graph in sorted((TOP / "examples").glob("*/graph.nt")):
+        agree(graph.parent.name, graph, graph.parent / "keys.gk", runs)
     with tempfile.TemporaryDirectory() as name:
         for kind, size in MADE:
             agree(kind, *written(pathlib.Path(name), kind, size), runs)

@@ -3,7 +3,7 @@
 
 Usage: bench/beside_clingo.py [KIND SIZE ..]
 
-The kinds are those of bench/pairs.py. Both must find the same classes. Times are seconds of processor time, one run each; a run
+The kinds are those of bench/graphs.py. Both must find the same classes. Times are seconds of processor time, one run each; a run
 of clingo is ended after ten minutes. What this script takes to write the graph as facts is not counted.
 """
 
@@ -15,8 +15,8 @@ import tempfile
 import threading
 
 import plain
-from pairs import written
-from timing import PROGRAM, built, timed
+from graphs import written
+from timing import PROGRAM, built, planned, timed
 
 MOST_SECONDS = 600
 PLAN = [("crowded", 10 ** 5), ("bibliography", 10 ** 5), ("missed", 10 ** 6), ("matched", 10 ** 5), ("woken", 10 ** 6),
@@ -115,12 +115,10 @@ def measure(folder, kind, size):
 
 
 def main():
-    words = sys.argv[1:]
     built()
-    plan = [(kind, int(size)) for kind, size in zip(words[::2], words[1::2])] if words else PLAN
     print(f"{'graph':>13} {'size':>9} {'gkey':>9} {'clingo':>9}")
     with tempfile.TemporaryDirectory() as folder:
-        for kind, size in plan:
+        for kind, size in planned(sys.argv[1:], PLAN):
             measure(pathlib.Path(folder), kind, size)
 
 

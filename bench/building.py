@@ -1,11 +1,10 @@
 """Builds the measuring programs of bench/programs over copies of the crates that they need."""
 
-import pathlib
 import shutil
 import subprocess
 import sys
 
-TOP = pathlib.Path(__file__).resolve().parent.parent
+from timing import TOP
 
 
 def crate_lines():

@@ -258,3 +258,24 @@ def woken(out, pairs, seed=1):
     for i in range(count):
         entity(out, f"a:{i}", "one", following=f"b:{i}")
         entity(out, f"b:{i}", f"n{i // 2}", code="c" if i < 2 else None, following=f"b:{i - 2}" if i >= 2 else None)
+
+
+KINDS = {
+    "catalogue": (catalogue, CATALOGUE_KEYS),
+    "crowded": (crowded, CATALOGUE_KEYS),
+    "bibliography": (bibliography, BIBLIOGRAPHY_KEYS),
+    "missed": (missed, CHAIN_KEYS),
+    "matched": (matched, CHAIN_KEYS),
+    "woken": (woken, CHAIN_KEYS),
+    "chain": (chain, CHAIN_KEYS),
+}
+
+
+def written(folder, kind, size):
+    """The graph of a kind and its key file, written to the folder."""
+    make, key_text = KINDS[kind]
+    graph, keys = folder / "graph.nt", folder / "keys.gk"
+    keys.write_text(key_text, encoding="utf-8")
+    with graph.open("w", encoding="utf-8") as out:
+        make(out, size)
+    return graph, keys

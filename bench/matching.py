@@ -1,28 +1,25 @@
 #!/usr/bin/env python3
 """Times `gkey match` on catalogues with recursive keys and on chains of pairs that depend on each other.
 
-Usage: bench/matching.py [catalogue TRIPLES .. | chain PAIRS ..]
+Usage: bench/matching.py [KIND SIZE ..]
 
-With no words: catalogues of 10^4, 10^5 and 10^6 triples and chains of 10^3 and 10^4 pairs.
+The kinds are those of bench/graphs.py. With no words: catalogues of 10^4, 10^5 and 10^6 triples and chains of 10^3 and 10^4
+pairs.
 """
 
 import pathlib
 import sys
 import tempfile
 
-import graphs
-from timing import PROGRAM, best_of_three, built
+from graphs import written
+from timing import PROGRAM, best_of_three, built, planned
 
-COLUMNS = "{:>10} {:>10} {:>10} {:>10} {:>10}"
-KINDS = {"catalogue": (graphs.catalogue, graphs.CATALOGUE_KEYS), "chain": (graphs.chain, graphs.CHAIN_KEYS)}
+COLUMNS = "{:>13} {:>10} {:>10} {:>10} {:>10}"
+PLAN = [("catalogue", 10 ** 4), ("catalogue", 10 ** 5), ("catalogue", 10 ** 6), ("chain", 10 ** 3), ("chain", 10 ** 4)]
 
 
 def measure(folder, kind, size):
-    make, key_text = KINDS[kind]
-    graph, keys = folder / "graph.nt", folder / "keys.gk"
-    keys.write_text(key_text)
-    with graph.open("w", encoding="utf-8") as out:
-        make(out, size)
+    graph, keys = written(folder, kind, size)
     with graph.open("rb") as lines:
         triples = sum(1 for _ in lines)
     run = best_of_three([str(PROGRAM), "match", str(graph), str(keys)])
@@ -31,12 +28,9 @@ def measure(folder, kind, size):
 
 def main():
     built()
-    words = sys.argv[1:]
-    plan = [(words[0], int(size)) for size in words[1:]] if words else (
-        [("catalogue", size) for size in (10 ** 4, 10 ** 5, 10 ** 6)] + [("chain", size) for size in (10 ** 3, 10 ** 4)])
     print(COLUMNS.format("graph", "size", "triples", "seconds", "peak MB"))
     with tempfile.TemporaryDirectory() as folder:
-        for kind, size in plan:
+        for kind, size in planned(sys.argv[1:], PLAN):
             measure(pathlib.Path(folder), kind, size)
 
 

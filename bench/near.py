@@ -25,10 +25,7 @@ def report(command):
 
 
 def measure(folder, size):
-    graph, keys = folder / "graph.nt", folder / "keys.gk"
-    keys.write_text(graphs.BIBLIOGRAPHY_KEYS)
-    with graph.open("w", encoding="utf-8") as out:
-        graphs.bibliography(out, size)
+    graph, keys = graphs.written(folder, "bibliography", size)
     ours = [str(PROGRAM), "match", str(graph), str(keys)]
     other = [sys.executable, str(TOP / "bench" / "plain.py"), str(graph), str(keys)]
     run, beside = best_of_three(ours), timed(other)

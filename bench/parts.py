@@ -39,4 +39,5 @@ def main():
             print(f"{names:>10} {entries:>10} {relabelled:>11} {took:>8} {took * 10 ** 6 // relabelled:>11}")
 
 
-main()
+if __name__ == "__main__":
+    main()

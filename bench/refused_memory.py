@@ -19,7 +19,7 @@ import sys
 import tempfile
 from typing import NamedTuple
 
-import pairs
+import graphs
 import proof_checker
 import proofs
 from timing import PROGRAM, TOP, built
@@ -76,7 +76,7 @@ def on_examples(folder):
 
 def on_a_chain(folder):
     """Commands that take some megabytes."""
-    files = pairs.written(folder, "chain", CHAIN)
+    files = graphs.written(folder, "chain", CHAIN)
     proof = proof_of(files, folder / "chain.gkp")
     return [
         ["match", *files],

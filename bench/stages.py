@@ -4,13 +4,12 @@ processor the chase also by one thread that drains it, in the row of 0 workers.
 
 Usage: bench/stages.py [KIND SIZE ..]
 
-The kinds are those of bench/pairs.py. Times are seconds by the clock, each the least of three runs, which come in turn.
+The kinds are those of bench/graphs.py. Times are seconds by the clock, each the least of three runs, which come in turn.
 `searches` are those of the chase by so many workers: what goes beyond the kept pairs was searched again, because it was woken or
 because a label had changed meanwhile. `times` is how often the time of one worker holds that of so many, in the chase and in the
 whole run. At the end stands the load of the machine.
 """
 
-import os
 import pathlib
 import subprocess
 import sys
@@ -18,8 +17,8 @@ import tempfile
 import time
 
 from building import build
-from pairs import written
-from timing import PROGRAM, built
+from graphs import written
+from timing import PROGRAM, built, planned, print_load
 
 NEEDS = ["match_run", "steal_pool", "chase_core", "pair_filter", "pair_seed", "graph_rows", "key_lang", "gk_io", "gk_base", "anyhow"]
 PROCESSORS = {0: "0", 1: "0", 2: "0,1", 4: "0-3"}  # by the number of workers
@@ -54,16 +53,14 @@ def measure(program, folder, kind, size):
 
 
 def main():
-    words = sys.argv[1:]
     built()
-    plan = [(kind, int(size)) for kind, size in zip(words[::2], words[1::2])] if words else PLAN
     with tempfile.TemporaryDirectory() as name:
         folder = pathlib.Path(name)
         program = build(folder, "stage_times", NEEDS)
         print(COLUMNS.format("graph", "size", "by", "pairs", "kept", "searches", "seed", "filter", "chase", "whole", "times", "times"))
-        for kind, size in plan:
+        for kind, size in planned(sys.argv[1:], PLAN):
             measure(program, folder, kind, size)
-    print("load of the machine:", *(f"{load:.1f}" for load in os.getloadavg()), "with", os.cpu_count(), "processors")
+    print_load()
 
 
 if __name__ == "__main__":

@@ -1,4 +1,7 @@
-"""Runs commands and takes their times."""
+"""What the measuring scripts share: the program, the words that ask for cases, commands and their times.
+
+The program is that of bin/gkey, or the one that the environment variable GKEY names, which is taken as it stands.
+"""
 
 import os
 import pathlib
@@ -7,7 +10,7 @@ import sys
 from typing import NamedTuple
 
 TOP = pathlib.Path(__file__).resolve().parent.parent
-PROGRAM = TOP / "crates" / "gkey" / "out" / "gkey"
+PROGRAM = pathlib.Path(os.environ.get("GKEY") or TOP / "crates" / "gkey" / "out" / "gkey").resolve()
 
 
 class Run(NamedTuple):
@@ -16,9 +19,32 @@ class Run(NamedTuple):
 
 
 def built():
-    """Builds the program where it is missing or older than its sources."""
-    subprocess.run([TOP / "bin" / "gkey", "match", TOP / "examples/albums/graph.nt", TOP / "examples/albums/keys.gk"],
+    """Builds the program where it is missing or older than its sources. One that GKEY names is not built."""
+    first = PROGRAM if os.environ.get("GKEY") else TOP / "bin" / "gkey"
+    subprocess.run([first, "match", TOP / "examples/albums/graph.nt", TOP / "examples/albums/keys.gk"],
                    check=True, stdout=subprocess.DEVNULL)
+
+
+def programs(words):
+    """The program, with the one behind it that `--before PROGRAM` names; and the words that are left."""
+    if words[:1] == ["--before"]:
+        return [PROGRAM, pathlib.Path(words[1]).resolve()], words[2:]
+    return [PROGRAM], words
+
+
+def planned(words, plan):
+    """The cases that the words ask for, each with a kind and a size; the plan, where there are no words."""
+    return [(kind, int(size)) for kind, size in zip(words[::2], words[1::2], strict=True)] if words else plan
+
+
+def print_the_same(commands, case):
+    """Ends the script where not all of the commands print the same bytes."""
+    if len({subprocess.run(command, stdout=subprocess.PIPE, check=True).stdout for command in commands}) > 1:
+        sys.exit(f"{case}: one prints something else than the others")
+
+
+def print_load():
+    print("load of the machine:", *(f"{load:.1f}" for load in os.getloadavg()), "with", os.cpu_count(), "processors")
 
 
 def timed(command):

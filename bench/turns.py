@@ -10,14 +10,14 @@ so other programs change its figures by orders of magnitude: the command is put 
 other programs off the processors. It needs `rustc`.
 """
 
-import os
 import pathlib
 import statistics
 import subprocess
 import sys
 import tempfile
 
-from building import TOP, build
+from building import build
+from timing import TOP, print_load
 
 THREADS = [1, 2, 4, 8]
 SHORT, LONG = 400_000, 100_000  # turns of all threads together
@@ -52,7 +52,8 @@ def main():
                 runs = [[nanoseconds(command) for command in commands] for _ in range(rounds)]
                 rates = [share * threads * 1000 / statistics.median(of_one) for of_one in zip(*runs)]
                 print("{:>10} {:>7} {:>9.2f} {:>9.2f} {:>9.2f} {:>14.2f}".format(text, threads, *rates, rates[0] / max(rates[1:])))
-        print("load of the machine:", *(f"{load:.1f}" for load in os.getloadavg()), "with", os.cpu_count(), "processors")
+        print_load()
 
 
-main()
+if __name__ == "__main__":
+    main()
