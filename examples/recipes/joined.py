@@ -3,8 +3,8 @@
 
 Usage: joined.py PROOF
 
-The proof is one of version 2 (`gkey convert` makes one of version 1), and holds: this script reads which terms each step makes the
-same, and looks at nothing else. Spellings are taken as they stand, as `gkey` writes them.
+The proof is of version 2, and one of version 1 is turned into it by `gkey convert`. This script reads which terms each step
+makes the same, and does not look whether the step holds. Terms are taken as they are spelled, as `gkey` spells them.
 """
 
 import sys

@@ -1,5 +1,5 @@
-# Which kinds of objects each predicate has, and how many: IRIs, blank nodes, plain literals, literals by tag or datatype. It wants
-# one space between the parts of a line, as serdi and `gkey merge` write.
+# Which kinds of objects each predicate has, and how many: IRIs, blank nodes, plain literals, literals by tag or datatype. It
+# wants one space between the parts of a line, as serdi and `gkey merge` write.
 {
     object = substr($0, length($1) + length($2) + 3)
     sub(/ \.$/, "", object)

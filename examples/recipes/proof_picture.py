@@ -3,8 +3,8 @@
 
 Usage: proof_picture.py PROOF | dot -Tsvg > proof.svg
 
-The proof is one of version 2 (`gkey convert` makes one of version 1). A box has a step's number, its key, and the two terms that it
-makes the same; an arrow has the number of the slot at which the step below needs the step above.
+The proof is of version 2, and one of version 1 is turned into it by `gkey convert`. A box has a step's number, its key, and
+the two terms that it makes the same; an arrow has the number of the slot at which the step below needs the step above.
 """
 
 import sys
