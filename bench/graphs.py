@@ -1,7 +1,9 @@
 """Makes graphs and key files for the measurements: each from a size and a seed alone."""
 
 import itertools
+import multiprocessing
 import random
+import sys
 
 TYPE = "<http://www.w3.org/1999/02/22-rdf-syntax-ns#type>"
 SITE = "http://catalogue.example.org/"
@@ -271,11 +273,22 @@ KINDS = {
 }
 
 
+def made(make, graph, size):
+    with graph.open("w", encoding="utf-8") as out:
+        make(out, size)
+
+
 def written(folder, kind, size):
-    """The graph of a kind and its key file, written to the folder."""
+    """The graph of a kind and its key file, written to the folder.
+
+    A process of its own makes the graph: the memory that a script has had in use counts as that of each program that it starts.
+    """
     make, key_text = KINDS[kind]
     graph, keys = folder / "graph.nt", folder / "keys.gk"
     keys.write_text(key_text, encoding="utf-8")
-    with graph.open("w", encoding="utf-8") as out:
-        make(out, size)
+    maker = multiprocessing.get_context("fork").Process(target=made, args=(make, graph, size))
+    maker.start()
+    maker.join()
+    if maker.exitcode != 0:
+        sys.exit(f"{kind} {size}: the graph was not made")
     return graph, keys

@@ -3,14 +3,14 @@
 
 Usage: bench/guide.py [PAGE ..]   (README.md, docs/GUIDE.md and docs/SIZES.md, if none is given)
 
-Blocks between lines of ``` are of three sorts. One that has a line with `$ ` in front is a session: each such line is a command,
-with the lines that follow a `\\` at its end, and what stands below it is what it prints, on either stream. A block whose first word
-is `key` is a key file, and any other block whose lines end in ` .` is a graph: the program must accept these. A block of none of
-these sorts is told as such, and makes the status 1.
+Blocks between lines of ``` are of three sorts. One that has a line with `$ ` in front is a session: each such line is a
+command, with the lines that follow a `\\` at its end, and what stands below it is what it prints, on either stream. A block
+whose first word is `key` is a key file, and any other block whose lines end in ` .` is a graph: the program must accept these.
+A block of none of these sorts is told as such, and makes the status 1.
 
-All commands of a page run one after another in one shell, in a folder of its own, which has docs/, examples/, bench/ and bin/ of
-this repository, the program, and no sources, so that bin/gkey finds nothing to build. The commands in NOT_RUN are left out. It needs
-Debian's packages serdi, raptor2-utils and graphviz.
+All commands of a page run one after another in one shell, in a folder of its own, which has docs/, examples/, bench/ and bin/
+of this repository, the program, and no sources, so that bin/gkey finds nothing to build. The commands in NOT_RUN are left out.
+It needs Debian's packages serdi, raptor2-utils and graphviz.
 """
 
 import difflib

@@ -1,11 +1,12 @@
 #!/usr/bin/env python3
-"""Compares the manual page with the program: its commands with the usage, its version and limits with what the program says, its
-statuses and error texts with those of small runs, and its examples by running them. `man` and `mandoc -T lint` must find no fault.
+"""Compares the manual page with the program: its commands with the usage, its version and limits with what the program says,
+its statuses and error texts with those of small runs, and its examples by running them. `man` and `mandoc -T lint` must find
+no fault.
 
 Usage: bench/manual.py
 
-It ends with status 0 where nothing differs. Status 6, which comes where the system does not hand over the words, is not run. It needs
-Debian's packages man-db, mandoc and serdi.
+It ends with status 0 where nothing differs. Status 6, which comes where the system does not hand over the words, is not run.
+It needs Debian's packages man-db, mandoc and serdi.
 """
 
 import gzip
