@@ -3,6 +3,7 @@
 import itertools
 import multiprocessing
 import random
+import subprocess
 import sys
 
 TYPE = "<http://www.w3.org/1999/02/22-rdf-syntax-ns#type>"
@@ -292,3 +293,17 @@ def written(folder, kind, size):
     if maker.exitcode != 0:
         sys.exit(f"{kind} {size}: the graph was not made")
     return graph, keys
+
+
+def line_count(path):
+    with path.open("rb") as lines:
+        return sum(1 for _ in lines)
+
+
+def parted(folder, graph):
+    """The lines of a graph in two files, of which the second has the last hundredth."""
+    first, more, count = folder / "first.nt", folder / "more.nt", line_count(graph) // 100
+    for command, path in (["head", "-n", f"-{count}", graph], first), (["tail", "-n", str(count), graph], more):
+        with path.open("wb") as out:
+            subprocess.run(command, stdout=out, check=True)
+    return first, more

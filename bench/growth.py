@@ -13,7 +13,7 @@ import pathlib
 import sys
 import tempfile
 
-from graphs import written
+from graphs import line_count, parted, written
 from timing import PROGRAM, best_in_turn, built, planned, print_the_same
 
 COLUMNS = "{:>13} {:>10} {:>10} {:>10} {:>10} {:>10} {:>10} {:>10}"
@@ -22,18 +22,14 @@ PLAN = [("catalogue", 10 ** 6), ("chain", 10 ** 5)]
 
 def measure(folder, kind, size):
     both, keys = written(folder, kind, size)
-    first, more = folder / "first.nt", folder / "more.nt"
-    lines = both.read_bytes().splitlines(keepends=True)
-    cut = len(lines) - len(lines) // 100
-    first.write_bytes(b"".join(lines[:cut]))
-    more.write_bytes(b"".join(lines[cut:]))
+    first, more = parted(folder, both)
     match_first = [str(PROGRAM), "match", str(first), str(keys)]
     match_both = [str(PROGRAM), "match", str(both), str(keys)]
     grow = [str(PROGRAM), "grow", str(first), str(more), str(keys)]
     print_the_same([grow, match_both], f"{kind} {size}")
     runs = best_in_turn([match_first, match_both, grow], rounds=3)
     seconds = [f"{run.seconds:.2f}" for run in runs]
-    print(COLUMNS.format(kind, size, cut, len(lines) - cut, *seconds, f"{runs[2].megabytes:.0f}"), flush=True)
+    print(COLUMNS.format(kind, size, line_count(first), line_count(more), *seconds, f"{runs[2].megabytes:.0f}"), flush=True)
 
 
 def main():

@@ -11,7 +11,7 @@ import pathlib
 import sys
 import tempfile
 
-from graphs import written
+from graphs import line_count, written
 from timing import PROGRAM, best_of_three, built, planned
 
 COLUMNS = "{:>13} {:>10} {:>10} {:>10} {:>10}"
@@ -20,10 +20,8 @@ PLAN = [("catalogue", 10 ** 4), ("catalogue", 10 ** 5), ("catalogue", 10 ** 6), 
 
 def measure(folder, kind, size):
     graph, keys = written(folder, kind, size)
-    with graph.open("rb") as lines:
-        triples = sum(1 for _ in lines)
     run = best_of_three([str(PROGRAM), "match", str(graph), str(keys)])
-    print(COLUMNS.format(kind, size, triples, f"{run.seconds:.2f}", f"{run.megabytes:.0f}"), flush=True)
+    print(COLUMNS.format(kind, size, line_count(graph), f"{run.seconds:.2f}", f"{run.megabytes:.0f}"), flush=True)
 
 
 def main():

@@ -21,7 +21,7 @@ import tempfile
 import time
 from typing import NamedTuple
 
-from graphs import SITE, members, written
+from graphs import SITE, line_count, members, parted, written
 from timing import PROGRAM, TOP, built
 
 PAGE = TOP / "docs" / "SIZES.md"
@@ -89,25 +89,17 @@ def by_triples(folder, share):
     yield "|---|---|---|---|---|---|---|---|---|"
     for kind, size in BY_TRIPLES:
         graph, keys = written(folder, kind, size // share)
-        with graph.open("rb") as lines:
-            triples = sum(1 for _ in lines)
         report = folder / "report"
         cells = by_workers(graph, keys, out=report)
-        with report.open("rb") as lines:
-            classes = sum(1 for _ in lines)
-        size_of_text = graph.stat().st_size / 1e6
-        yield f"| {kind} | {triples:,} | {size_of_text:,.0f} | {pairs_of(kind, graph):,} | {classes:,} | {cells} |"
+        counts = line_count(graph), round(graph.stat().st_size / 1e6), pairs_of(kind, graph), line_count(report)
+        yield f"| {kind} | {' | '.join(f'{count:,}' for count in counts)} | {cells} |"
 
 
 def by_command(folder, share):
     yield "| Command | Seconds | processor | MB |"
     yield "|---|---|---|---|"
     graph, keys = written(folder, "catalogue", BY_COMMAND // share)
-    proof, first, more = folder / "proof", folder / "first.nt", folder / "more.nt"
-    cut = BY_COMMAND // share // 100
-    for command, out in (["head", "-n", f"-{cut}", graph], first), (["tail", "-n", f"{cut}", graph], more):
-        with out.open("wb") as file:
-            subprocess.run(command, stdout=file, check=True)
+    proof, (first, more) = folder / "proof", parted(folder, graph)
     report = subprocess.run([PROGRAM, "match", graph, keys], check=True, stdout=subprocess.PIPE, text=True).stdout
     ends = report.split("\n")[0].split()
     yield f"| `match` | {shown(best('match', graph, keys))} |"
