@@ -48,6 +48,14 @@ def synopsis():
     return calls
 
 
+def described():
+    """The calls that the description explains, without options."""
+    for line in section("DESCRIPTION"):
+        found = re.match(r"\.It (?:Cm (\S+) Ar (.*)|Fl (-help|-version))$", line)
+        if found:
+            yield f"gkey {found[1]} {found[2].upper()}" if found[1] else f"gkey -{found[3]}"
+
+
 def ran(*words, out=subprocess.PIPE, limit=None):
     """The status, the output and the error text of a run."""
     def limited():
@@ -115,6 +123,9 @@ def differences(folder):
     usage = [line.strip() for line in ran()[2].splitlines()[1:]]
     for call in sorted(set(usage) ^ set(synopsis())):
         yield f"only in the {'usage' if call in usage else 'synopsis'}: {call}"
+    explained = sorted(described())
+    if explained != sorted(call.replace(" [--workers N]", "") for call in usage):
+        yield f"the description explains other commands: {explained}"
     version = re.search(r"Fl -version\nPrint\n\.Ql (.*) \.", text)[1]
     if ran("--version") != ("0", version + "\n", ""):
         yield f"--version does not print {version}"
