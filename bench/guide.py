@@ -1,5 +1,6 @@
 #!/usr/bin/env python3
-"""Runs the commands that GUIDE, SIZES and README show, and compares what they print with what is shown there.
+"""Runs the commands that GUIDE, SIZES and README show, and compares what they print with what is shown there. Of every page
+it looks whether its links lead to files and headings of the repository.
 
 Usage: bench/guide.py [PAGE ..]   (README.md, docs/GUIDE.md and docs/SIZES.md, if none is given)
 
@@ -128,9 +129,31 @@ def judged(page, folder):
     return right, wrong
 
 
+def heading_names(text):
+    """The names by which links call the headings of a page."""
+    headings = re.findall(r"^#+ (.*)$", re.sub(r"^```.*?^```$", "", text, flags=re.M | re.S), re.M)
+    return {re.sub(r"[^\w\- ]", "", heading.lower()).replace(" ", "-") for heading in headings}
+
+
+def lost_links():
+    """The links of all pages that lead to no file or heading of the repository."""
+    pages = [TOP / "README.md", *(path for part in ("docs", "bench", "examples") for path in sorted((TOP / part).rglob("*.md")))]
+    for page in pages:
+        for link in re.findall(r"\]\(([^)\s]+)\)", page.read_text(encoding="utf-8")):
+            name, _, heading = link.partition("#")
+            target = page.parent / name if name else page
+            is_there = "://" in link or target.exists()
+            if is_there and heading and "://" not in link:
+                is_there = heading in heading_names(target.read_text(encoding="utf-8"))
+            if not is_there:
+                yield f"{page.relative_to(TOP)}: leads nowhere: {link}"
+
+
 def main():
     built()
-    failed = False
+    lost = list(lost_links())
+    print("".join(each + "\n" for each in lost), end="")
+    failed = len(lost) > 0
     for page in sys.argv[1:] or [page for page in PAGES if (TOP / page).exists()]:
         with tempfile.TemporaryDirectory() as name:
             right, wrong = judged(page, copied(pathlib.Path(name)))
