@@ -123,9 +123,11 @@ def differences(folder):
     usage = [line.strip() for line in ran()[2].splitlines()[1:]]
     for call in sorted(set(usage) ^ set(synopsis())):
         yield f"only in the {'usage' if call in usage else 'synopsis'}: {call}"
-    explained = sorted(described())
-    if explained != sorted(call.replace(" [--workers N]", "") for call in usage):
-        yield f"the description explains other commands: {explained}"
+    if sorted(usage) == sorted(synopsis()) and usage != synopsis():
+        yield "the synopsis has the commands in another order"
+    explained = list(described())
+    if explained != [call.replace(" [--workers N]", "") for call in usage]:
+        yield f"the description explains other commands, or in another order: {explained}"
     version = re.search(r"Fl -version\nPrint\n\.Ql (.*) \.", text)[1]
     if ran("--version") != ("0", version + "\n", ""):
         yield f"--version does not print {version}"
