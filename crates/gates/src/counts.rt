@@ -2,7 +2,8 @@
 
 ghost use Rattle.std.specs.Prelude.{◌≡◌, IfOk, length};
 
-use std::alloc::{AllocError, Global};
+use gk_base::NoMemory;
+use std::alloc::Global;
 use std::sync::atomic::{AtomicU64, Ordering};
 use steal_pool::Gate;
 
@@ -20,7 +21,7 @@ const NONE: u64 = 1 << 32;
 
 impl Counts {
     /// A gate with a counter for each of so many pairs.
-    pub fn new(alloc: Global, pairs: u32) -> Result<Counts, AllocError>
+    pub fn new(alloc: Global, pairs: u32) -> Result<Counts, NoMemory>
         ensures { IfOk result (λ gate. length gate.passed.items ≡ pairs) }
     {
         let mut passed = Vec::new(alloc);
