@@ -1,10 +1,11 @@
 //! Graphs that grow.
 
-use crate::runs::{Case, MERGE, USAGE, holds, printed};
-use fixtures::texts::{ALBUM_AND_ARTIST_KEYS, ALBUM_KEY, ALBUMS, ALBUMS_AND_ARTISTS};
+use crate::runs::{Case, MERGE, holds, printed, usage};
+use fixtures::texts::{
+    ALBUM_AND_ARTIST_KEYS, ALBUM_KEY, ALBUMS, ONE_VALUE, THREE_CLASSES, TWO_VALUES,
+};
 use gk_base::Limits;
 use std::sync::atomic::{AtomicU64, Ordering};
-use std::test::Fail;
 use steal_pool::Gate;
 
 /// What makes the two albums four by two artists: one pair of albums more of one name, and two artists of one name.
@@ -21,12 +22,6 @@ const MORE_ALBUMS: &[u8] = b"\
 <urn:al2> <urn:by> <urn:ar2> .
 <urn:al3> <urn:by> <urn:ar1> .
 <urn:al4> <urn:by> <urn:ar2> .
-";
-
-const ALBUMS_AND_ARTISTS_MATCHED: &str = "\
-<urn:al1> <urn:al2>
-<urn:al3> <urn:al4>
-<urn:ar1> <urn:ar2>
 ";
 
 /// Two entities with one value, of which one has a type.
@@ -49,9 +44,6 @@ _:n <http://www.w3.org/1999/02/22-rdf-syntax-ns#type> <urn:T> .
 /// Its value.
 const BLANK_VALUE: &[u8] = b"_:n <urn:p> \"1\" .\n";
 
-/// A key of one value.
-const ONE_VALUE: &[u8] = b"key k <urn:T>\nvalue $v\n?x <urn:p> $v\nend\n";
-
 /// Two pairs: c and d have two values in common, and f and g one value twice, which are not two.
 const TWO_PAIRS: &[u8] = b"\
 <urn:c> <http://www.w3.org/1999/02/22-rdf-syntax-ns#type> <urn:T> .
@@ -71,74 +63,80 @@ const TWO_PAIRS: &[u8] = b"\
 /// A second value for f and g.
 const SECOND_VALUE: &[u8] = b"<urn:f> <urn:p> \"4\" .\n<urn:g> <urn:p> \"4\" .\n";
 
-/// A key of two values.
-const TWO_VALUES: &[u8] = b"key k <urn:T>\nvalue $v\nvalue $w\n?x <urn:p> $v\n?x <urn:q> $w\nend\n";
+/// The class of the two albums.
+const ONE_CLASS: &str = "<urn:al1> <urn:al2>\n";
 
 /// Two albums, to which nothing is added.
 const GROW: Case<'static> = Case {
     words: &["grow", "g", "m", "k"],
-    out: "<urn:al1> <urn:al2>\n",
+    out: ONE_CLASS,
     ..MERGE
 };
 
+/// The same.
+fn grow() -> Case<'static> {
+    GROW
+}
+
 /// A growth that is refused.
-const REFUSED: Case<'static> = Case {
-    status: 2,
-    out: "",
-    ..GROW
-};
+fn refused() -> Case<'static> {
+    Case {
+        status: 2,
+        out: "",
+        ..grow()
+    }
+}
+
+/// Graphs, what is added to them, keys, and the report.
+static GROWN: [(&[u8], &[u8], &[u8], &str); 7] = [
+    (ALBUMS, MORE_ALBUMS, ALBUM_AND_ARTIST_KEYS, THREE_CLASSES),
+    (ALBUMS, b"", ALBUM_KEY, ONE_CLASS),
+    (b"", ALBUMS, ALBUM_KEY, ONE_CLASS),
+    (b"", b"", ALBUM_KEY, ""),
+    (ALBUMS, ALBUMS, ALBUM_KEY, ONE_CLASS),
+    (ONE_TYPE, OTHER_TYPE, ONE_VALUE, "<urn:a> <urn:b>\n"),
+    (BLANK_NODE, BLANK_VALUE, ONE_VALUE, "<urn:a> _:n\n"),
+];
+
+fn grown() -> &'static [(&'static [u8], &'static [u8], &'static [u8], &'static str)] {
+    &GROWN
+}
 
 #[test]
-fn the_report_is_that_of_both_graphs(rt: HostRuntime) -> Result<(), Fail> {
-    let grown: [(&[u8], &[u8], &[u8], &str); 7] = [
-        (
-            ALBUMS,
-            MORE_ALBUMS,
-            ALBUM_AND_ARTIST_KEYS,
-            ALBUMS_AND_ARTISTS_MATCHED,
-        ),
-        (ALBUMS, b"", ALBUM_KEY, GROW.out),
-        (b"", ALBUMS, ALBUM_KEY, GROW.out),
-        (b"", b"", ALBUM_KEY, ""),
-        (ALBUMS, ALBUMS, ALBUM_KEY, GROW.out),
-        (ONE_TYPE, OTHER_TYPE, ONE_VALUE, "<urn:a> <urn:b>\n"),
-        (BLANK_NODE, BLANK_VALUE, ONE_VALUE, "<urn:a> _:n\n"),
-    ];
-    for (row, (graph, more, keys, out)) in grown.into_iter().enumerate() {
+fn the_report_is_that_of_both_graphs(rt: HostRuntime) {
+    for (row, (graph, more, keys, out)) in grown().iter().enumerate() {
         let case = Case {
             graph,
             more,
             keys,
             out,
-            ..GROW
+            ..grow()
         };
-        assert!(rt; holds(&rt, &case)?, "row {row}");
+        assert!(rt; holds(&rt, &case), "row {row}");
     }
-    Ok(())
 }
 
 #[test]
-fn graphs_grow_the_same_with_any_workers(rt: HostRuntime) -> Result<(), Fail> {
+fn graphs_grow_the_same_with_any_workers(rt: HostRuntime) {
     for workers in ["1", "3", "64"] {
         let case = Case {
             words: &["grow", "--workers", workers, "g", "m", "k"],
             more: MORE_ALBUMS,
             keys: ALBUM_AND_ARTIST_KEYS,
-            out: ALBUMS_AND_ARTISTS_MATCHED,
-            ..GROW
+            out: THREE_CLASSES,
+            ..grow()
         };
-        assert!(rt; holds(&rt, &case)?, "{workers} workers");
+        assert!(rt; holds(&rt, &case), "{workers} workers");
     }
-    Ok(())
 }
 
 #[test]
-fn added_graphs_are_refused_after_the_graph_and_before_keys(rt: HostRuntime) -> Result<(), Fail> {
+fn added_graphs_are_refused_after_the_graph_and_before_keys(rt: HostRuntime) {
     let bad_more = Case {
         more: b"<urn:a> <urn:p> \"x\" .\n<a> <urn:p> \"x\" .\n",
         keys: b"end\n",
         err: "more:2: relative IRI\n",
-        ..REFUSED
+        ..refused()
     };
     let bad_graph = Case {
         graph: b"<urn:a> <urn:p> .\n",
@@ -148,16 +146,16 @@ fn added_graphs_are_refused_after_the_graph_and_before_keys(rt: HostRuntime) -> 
     let bad_keys = Case {
         keys: b"end\n",
         err: "keys:1: statement out of place\n",
-        ..REFUSED
+        ..refused()
     };
     let missing = Case {
         words: &["grow", "g", "none", "k"],
         status: 3,
         err: "more: read failed\n",
-        ..REFUSED
+        ..refused()
     };
     let unread = Case {
-        words: GROW.words,
+        words: grow().words,
         failing: 5,
         ..missing
     };
@@ -165,13 +163,12 @@ fn added_graphs_are_refused_after_the_graph_and_before_keys(rt: HostRuntime) -> 
         .into_iter()
         .enumerate()
     {
-        assert!(rt; holds(&rt, &case)?, "row {row}");
+        assert!(rt; holds(&rt, &case), "row {row}");
     }
-    Ok(())
 }
 
 #[test]
-fn triples_and_pairs_of_both_graphs_are_limited_together(rt: HostRuntime) -> Result<(), Fail> {
+fn triples_and_pairs_of_both_graphs_are_limited_together(rt: HostRuntime) {
     let seven_triples = Case {
         more: b"<urn:al1> <urn:by> <urn:ar1> .\n",
         limits: Limits {
@@ -179,11 +176,11 @@ fn triples_and_pairs_of_both_graphs_are_limited_together(rt: HostRuntime) -> Res
             ..Limits::STANDARD
         },
         err: "more:1: too many triples\n",
-        ..REFUSED
+        ..refused()
     };
     let six_triples = Case {
         more: b"# none\n",
-        out: GROW.out,
+        out: grow().out,
         status: 0,
         err: "",
         ..seven_triples
@@ -197,7 +194,7 @@ fn triples_and_pairs_of_both_graphs_are_limited_together(rt: HostRuntime) -> Res
             ..Limits::STANDARD
         },
         err: "pairs: more than 0\n",
-        ..REFUSED
+        ..refused()
     };
     let no_pair = Case {
         more: b"",
@@ -209,9 +206,8 @@ fn triples_and_pairs_of_both_graphs_are_limited_together(rt: HostRuntime) -> Res
         .into_iter()
         .enumerate()
     {
-        assert!(rt; holds(&rt, &case)?, "row {row}");
+        assert!(rt; holds(&rt, &case), "row {row}");
     }
-    Ok(())
 }
 
 /// Words that ask for no command.
@@ -224,19 +220,22 @@ static NO_GROWTH: [&'static [&'static str]; 6] = [
     &["match", "--workers", "4", "g", "m", "k"],
 ];
 
+fn no_growth() -> &'static [&'static [&'static str]] {
+    &NO_GROWTH
+}
+
 #[test]
-fn other_words_ask_for_no_growth(rt: HostRuntime) -> Result<(), Fail> {
-    for (row, words) in NO_GROWTH.iter().enumerate() {
+fn other_words_ask_for_no_growth(rt: HostRuntime) {
+    for (row, words) in no_growth().iter().enumerate() {
         let case = Case {
             words,
             status: 64,
             out: "",
-            err: USAGE,
-            ..GROW
+            err: usage(),
+            ..grow()
         };
-        assert!(rt; holds(&rt, &case)?, "row {row}");
+        assert!(rt; holds(&rt, &case), "row {row}");
     }
-    Ok(())
 }
 
 /// Counts the searches.
@@ -253,7 +252,7 @@ impl Gate for Searches {
 
 /// The first graph's two pairs are searched, and then only the pair that the first chase has missed.
 #[test]
-fn what_was_identified_is_not_searched_again(rt: HostRuntime) -> Result<(), Fail> {
+fn what_was_identified_is_not_searched_again(rt: HostRuntime) {
     let searches = Searches {
         passed: AtomicU64::new(0),
     };
@@ -262,10 +261,9 @@ fn what_was_identified_is_not_searched_again(rt: HostRuntime) -> Result<(), Fail
         graph: TWO_PAIRS,
         more: SECOND_VALUE,
         keys: TWO_VALUES,
-        ..GROW
+        ..grow()
     };
-    let report = printed(&rt, &case, &searches)?.ok_or("no report")?;
+    let report = printed(&rt, &case, &searches).expect(&rt, "a report");
     assert!(rt; report.as_slice() == b"<urn:c> <urn:d>\n<urn:f> <urn:g>\n".as_slice());
     assert_eq!(rt; searches.passed.load(Ordering::SeqCst), 3u64);
-    Ok(())
 }

@@ -1,5 +1,5 @@
-//! Tests of the commands `merge`, `why` and `grow`: whole runs of `gkey_cmd` over files in memory. They stand in a crate of their own,
-//! since a crate with tests is proved twice.
+//! Tests of the commands `merge`, `why` and `grow`: whole runs of `gkey_cmd` over files in memory. They stand in a crate of
+//! their own, since a crate with tests is proved twice.
 //!
 //! - `runs`: a run, and what it is to leave
 //! - `merges`: merged graphs

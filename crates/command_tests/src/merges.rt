@@ -1,9 +1,10 @@
 //! Merged graphs.
 
-use crate::runs::{Case, MERGE, holds, printed};
-use fixtures::texts::{ALBUM_AND_ARTIST_KEYS, ALBUM_KEY, ALBUMS, ALBUMS_AND_ARTISTS};
+use crate::runs::{Case, MERGE, holds, merge, printed};
+use fixtures::texts::{
+    ALBUM_AND_ARTIST_KEYS, ALBUM_KEY, ALBUMS, ALBUMS_AND_ARTISTS, ALBUMS_MERGED, ONE_VALUE,
+};
 use gk_base::Limits;
-use std::test::Fail;
 use steal_pool::OpenGate;
 
 /// The four albums and two artists, of which each two are the same.
@@ -39,84 +40,86 @@ _::x <urn:p> \"1\" .
 <urn:z> <urn:p> \"1\" .
 ";
 
-/// A key of one value.
-const ONE_VALUE: &[u8] = b"key k <urn:T>\nvalue $v\n?x <urn:p> $v\nend\n";
-
 const BLANK_NODES_MERGED: &str = "\
 <urn:z> <http://www.w3.org/1999/02/22-rdf-syntax-ns#type> <urn:T> .
 <urn:z> <urn:p> \"1\" .
 ";
 
+/// Graphs, keys, and the merged graph.
+static MERGED: [(&[u8], &[u8], &str); 5] = [
+    (ALBUMS, ALBUM_KEY, ALBUMS_MERGED),
+    (b"", ALBUM_KEY, ""),
+    (ALBUMS, b"", ALBUMS_SORTED),
+    (
+        ALBUMS_AND_ARTISTS,
+        ALBUM_AND_ARTIST_KEYS,
+        FOUR_ALBUMS_MERGED,
+    ),
+    (BLANK_NODES, ONE_VALUE, BLANK_NODES_MERGED),
+];
+
+fn merged() -> &'static [(&'static [u8], &'static [u8], &'static str)] {
+    &MERGED
+}
+
+/// A merge of the four albums and their artists.
+fn merge_of_four() -> Case<'static> {
+    Case {
+        graph: ALBUMS_AND_ARTISTS,
+        keys: ALBUM_AND_ARTIST_KEYS,
+        out: FOUR_ALBUMS_MERGED,
+        ..MERGE
+    }
+}
+
 #[test]
-fn entities_stand_as_the_first_of_their_class(rt: HostRuntime) -> Result<(), Fail> {
-    let merged: [(&[u8], &[u8], &str); 5] = [
-        (ALBUMS, ALBUM_KEY, MERGE.out),
-        (b"", ALBUM_KEY, ""),
-        (ALBUMS, b"", ALBUMS_SORTED),
-        (
-            ALBUMS_AND_ARTISTS,
-            ALBUM_AND_ARTIST_KEYS,
-            FOUR_ALBUMS_MERGED,
-        ),
-        (BLANK_NODES, ONE_VALUE, BLANK_NODES_MERGED),
-    ];
-    for (row, (graph, keys, out)) in merged.into_iter().enumerate() {
+fn entities_stand_as_the_first_of_their_class(rt: HostRuntime) {
+    for (row, (graph, keys, out)) in merged().iter().enumerate() {
         let case = Case {
             graph,
             keys,
             out,
-            ..MERGE
+            ..merge()
         };
-        assert!(rt; holds(&rt, &case)?, "row {row}");
+        assert!(rt; holds(&rt, &case), "row {row}");
     }
-    Ok(())
 }
 
 #[test]
-fn merged_graphs_are_the_same_with_any_workers(rt: HostRuntime) -> Result<(), Fail> {
+fn merged_graphs_are_the_same_with_any_workers(rt: HostRuntime) {
     for workers in ["1", "3", "64"] {
         let case = Case {
             words: &["merge", "--workers", workers, "g", "k"],
-            graph: ALBUMS_AND_ARTISTS,
-            keys: ALBUM_AND_ARTIST_KEYS,
-            out: FOUR_ALBUMS_MERGED,
-            ..MERGE
+            ..merge_of_four()
         };
-        assert!(rt; holds(&rt, &case)?, "{workers} workers");
+        assert!(rt; holds(&rt, &case), "{workers} workers");
     }
-    Ok(())
 }
 
 #[test]
-fn a_merged_graph_is_matched_as_any_other(rt: HostRuntime) -> Result<(), Fail> {
-    let merging = Case {
-        graph: ALBUMS_AND_ARTISTS,
-        keys: ALBUM_AND_ARTIST_KEYS,
-        ..MERGE
-    };
-    let merged = printed(&rt, &merging, &OpenGate)?.ok_or("no merged graph")?;
+fn a_merged_graph_is_matched_as_any_other(rt: HostRuntime) {
+    let merging = merge_of_four();
+    let merged = printed(&rt, &merging, &OpenGate).expect(&rt, "a merged graph");
     let matching = Case {
         words: &["match", "g", "k"],
         graph: &merged,
         out: "",
         ..merging
     };
-    assert!(rt; holds(&rt, &matching)?);
+    assert!(rt; holds(&rt, &matching));
     let again = Case {
         graph: &merged,
-        out: FOUR_ALBUMS_MERGED,
         ..merging
     };
-    assert!(rt; holds(&rt, &again)?);
-    Ok(())
+    assert!(rt; holds(&rt, &again));
 }
 
 #[test]
-fn merges_are_refused_as_matches_are(rt: HostRuntime) -> Result<(), Fail> {
+fn merges_are_refused_as_matches_are(rt: HostRuntime) {
     let refused = Case {
         status: 2,
         out: "",
-        ..MERGE
+        ..merge()
     };
     let bad_graph = Case {
         graph: b"<urn:a> <urn:p> .\n",
@@ -146,7 +149,6 @@ fn merges_are_refused_as_matches_are(rt: HostRuntime) -> Result<(), Fail> {
         .into_iter()
         .enumerate()
     {
-        assert!(rt; holds(&rt, &case)?, "row {row}");
+        assert!(rt; holds(&rt, &case), "row {row}");
     }
-    Ok(())
 }

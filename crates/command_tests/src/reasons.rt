@@ -1,27 +1,12 @@
 //! Proofs for two entities, and why there is none.
 
-use crate::runs::{Case, MERGE, USAGE, holds, leaves, printed};
-use fixtures::texts::{ALBUM_AND_ARTIST_KEYS, ALBUM_KEY, ALBUMS_AND_ARTISTS};
+use crate::runs::{Case, ENOUGH, MERGE, holds, leaves, printed, texts, usage};
+use fixtures::texts::{ALBUM_AND_ARTIST_KEYS, ALBUM_KEY, ALBUM_PROOF, ALBUMS_AND_ARTISTS};
 use gk_base::{Limits, Text};
+use std::process::Abort;
 use std::sync::Wait;
-use std::test::Fail;
 use std::thread::Threads;
 use steal_pool::OpenGate;
-
-/// The proof that two albums with one name and one year are the same.
-const ALBUM_PROOF: &str = "\
-gkey-proof 2
-terms 4
-<urn:al1>
-\"Anthology 2\"
-\"1996\"
-<urn:al2>
-step album_year
-left 1 2 3
-right 4 2 3
-done
-end 1
-";
 
 /// The proof of nothing.
 const NO_STEPS: &str = "gkey-proof 2\nterms 0\nend 0\n";
@@ -38,6 +23,11 @@ const WHY: Case<'static> = Case {
     out: ALBUM_PROOF,
     ..MERGE
 };
+
+/// The same.
+fn why() -> Case<'static> {
+    WHY
+}
 
 /// Two words, and what they lead to.
 #[derive(Clone, Copy)]
@@ -152,67 +142,77 @@ static ROWS: [Row; 17] = [
     },
 ];
 
+fn rows() -> &'static [Row] {
+    &ROWS
+}
+
+/// The keys of the albums and their artists.
+fn album_and_artist_keys() -> &'static [u8] {
+    ALBUM_AND_ARTIST_KEYS
+}
+
 /// Whether `why` leaves this of the two albums.
-fn row_holds<R: AllocGlobal + Threads + Wait + Sync>(rt: &R, row: &Row) -> Result<bool, Fail> {
-    let mut words = Vec::new(rt.alloc());
-    for word in ["why", "g", "k", row.first, row.second] {
-        words.push(Text::from_bytes(rt.alloc(), word.as_bytes())?)?;
-    }
+fn row_holds<R: AllocGlobal + Threads + Wait + Sync + Abort>(rt: &R, row: &Row) -> bool {
     let case = Case {
-        keys: ALBUM_AND_ARTIST_KEYS,
+        words: &["why", "g", "k", row.first, row.second],
+        keys: album_and_artist_keys(),
         status: row.status,
         out: row.out,
         err: row.err,
-        ..WHY
+        ..why()
     };
-    leaves(rt, &words, &case)
+    holds(rt, &case)
 }
 
 #[test]
-fn words_name_entities_of_the_graph(rt: HostRuntime) -> Result<(), Fail> {
-    for (row, expected) in ROWS.iter().enumerate() {
-        assert!(rt; row_holds(&rt, expected)?, "row {row}");
+fn words_name_entities_of_the_graph(rt: HostRuntime) {
+    for (row, expected) in rows().iter().enumerate() {
+        assert!(rt; row_holds(&rt, expected), "row {row}");
     }
-    Ok(())
 }
 
 #[test]
-fn a_word_that_is_not_utf_8_names_no_entity(rt: HostRuntime) -> Result<(), Fail> {
-    let mut words = Vec::new(rt.alloc());
-    for word in ["why", "g", "k", "<urn:al1>"] {
-        words.push(Text::from_bytes(rt.alloc(), word.as_bytes())?)?;
-    }
-    words.push(Text::from_bytes(rt.alloc(), b"<urn:\xFF>")?)?;
+fn a_word_that_is_not_utf_8_names_no_entity(rt: HostRuntime) {
+    let alloc = rt.alloc();
+    let mut words = texts(alloc, &["why", "g", "k", "<urn:al1>"]).expect(&rt, ENOUGH);
+    let no_text = Text::from_bytes(alloc, b"<urn:\xFF>").expect(&rt, ENOUGH);
+    words.push(no_text).expect(&rt, ENOUGH);
     let case = Case {
         status: 2,
         out: "",
         err: NO_SECOND,
-        ..WHY
+        ..why()
     };
-    assert!(rt; leaves(&rt, &words, &case)?);
-    Ok(())
+    assert!(rt; leaves(&rt, &words, &case));
+}
+
+/// Why two entities of the four albums and their artists are the same.
+const WHY_OF_FOUR: Case<'static> = Case {
+    graph: ALBUMS_AND_ARTISTS,
+    keys: ALBUM_AND_ARTIST_KEYS,
+    ..WHY
+};
+
+fn why_of_four() -> Case<'static> {
+    WHY_OF_FOUR
 }
 
 #[test]
-fn a_reason_has_the_steps_that_it_needs(rt: HostRuntime) -> Result<(), Fail> {
-    let four = Case {
-        graph: ALBUMS_AND_ARTISTS,
-        keys: ALBUM_AND_ARTIST_KEYS,
-        ..WHY
-    };
+fn a_reason_has_the_steps_that_it_needs(rt: HostRuntime) {
+    let four = why_of_four();
     for (second, accepted) in [("<urn:ar2>", "accepted 2\n"), ("<urn:ar1>", "accepted 0\n")] {
         let asked = Case {
             words: &["why", "g", "k", "<urn:ar1>", second],
             ..four
         };
-        let proof = printed(&rt, &asked, &OpenGate)?.ok_or("no proof")?;
+        let proof = printed(&rt, &asked, &OpenGate).expect(&rt, "a proof");
         let checked = Case {
             words: &["check", "g", "k", "p"],
             proof: &proof,
             out: accepted,
             ..four
         };
-        assert!(rt; holds(&rt, &checked)?, "{second}");
+        assert!(rt; holds(&rt, &checked), "{second}");
     }
     let apart = Case {
         words: &["why", "g", "k", "<urn:al1>", "<urn:al3>"],
@@ -220,12 +220,11 @@ fn a_reason_has_the_steps_that_it_needs(rt: HostRuntime) -> Result<(), Fail> {
         out: NOT_THE_SAME,
         ..four
     };
-    assert!(rt; holds(&rt, &apart)?);
-    Ok(())
+    assert!(rt; holds(&rt, &apart));
 }
 
 #[test]
-fn reasons_are_found_with_any_workers(rt: HostRuntime) -> Result<(), Fail> {
+fn reasons_are_found_with_any_workers(rt: HostRuntime) {
     for workers in ["1", "64"] {
         let case = Case {
             words: &[
@@ -237,15 +236,14 @@ fn reasons_are_found_with_any_workers(rt: HostRuntime) -> Result<(), Fail> {
                 "<urn:al1>",
                 "<urn:al2>",
             ],
-            ..WHY
+            ..why()
         };
-        assert!(rt; holds(&rt, &case)?, "{workers} workers");
+        assert!(rt; holds(&rt, &case), "{workers} workers");
     }
-    Ok(())
 }
 
 #[test]
-fn files_are_refused_before_words_and_words_before_pairs(rt: HostRuntime) -> Result<(), Fail> {
+fn files_are_refused_before_words_and_words_before_pairs(rt: HostRuntime) {
     let refused = Case {
         words: &["why", "g", "k", "al1", "al2"],
         limits: Limits {
@@ -255,7 +253,7 @@ fn files_are_refused_before_words_and_words_before_pairs(rt: HostRuntime) -> Res
         status: 2,
         out: "",
         err: NO_FIRST,
-        ..WHY
+        ..why()
     };
     let bad_graph = Case {
         graph: b"<urn:a> <urn:p> .\n",
@@ -269,7 +267,7 @@ fn files_are_refused_before_words_and_words_before_pairs(rt: HostRuntime) -> Res
         ..refused
     };
     let few_pairs = Case {
-        words: WHY.words,
+        words: why().words,
         err: "pairs: more than 0\n",
         ..refused
     };
@@ -284,9 +282,8 @@ fn files_are_refused_before_words_and_words_before_pairs(rt: HostRuntime) -> Res
         .into_iter()
         .enumerate()
     {
-        assert!(rt; holds(&rt, &case)?, "row {row}");
+        assert!(rt; holds(&rt, &case), "row {row}");
     }
-    Ok(())
 }
 
 /// Words that ask for no command.
@@ -308,17 +305,20 @@ static NO_COMMAND: [&'static [&'static str]; 7] = [
     ],
 ];
 
+fn no_command() -> &'static [&'static [&'static str]] {
+    &NO_COMMAND
+}
+
 #[test]
-fn other_words_ask_for_no_command(rt: HostRuntime) -> Result<(), Fail> {
-    for (row, words) in NO_COMMAND.iter().enumerate() {
+fn other_words_ask_for_no_command(rt: HostRuntime) {
+    for (row, words) in no_command().iter().enumerate() {
         let case = Case {
             words,
             status: 64,
             out: "",
-            err: USAGE,
-            ..WHY
+            err: usage(),
+            ..why()
         };
-        assert!(rt; holds(&rt, &case)?, "row {row}");
+        assert!(rt; holds(&rt, &case), "row {row}");
     }
-    Ok(())
 }

@@ -1,12 +1,13 @@
 //! Runs over the files `g`, `m`, `k` and `p` in memory, where the call fails that a case names, and that for a file that is not
 //! there.
 
-use fixtures::texts::{ALBUM_KEY, ALBUMS};
-use gk_base::{Limits, Text};
+use fixtures::texts::{ALBUM_KEY, ALBUMS, ALBUMS_MERGED};
+use gk_base::{Limits, NoMemory, Text};
 use gk_io::{MemShelf, SureSink};
 use gkey_cmd::run_gated;
+use std::alloc::Global;
+use std::process::Abort;
 use std::sync::Wait;
-use std::test::Fail;
 use std::thread::Threads;
 use steal_pool::{Gate, OpenGate};
 
@@ -27,10 +28,12 @@ pub struct Case<'a> {
 }
 
 /// The error text of words that ask for no command.
-pub const USAGE: &str =
-    "usage:\n  gkey match [--workers N] GRAPH KEYS\n  gkey prove [--workers N] GRAPH KEYS\n  gkey check GRAPH KEYS PROOF\n  gkey convert PROOF\n  gkey demo N\n  gkey grow [--workers N] GRAPH MORE KEYS\n  gkey merge [--workers N] GRAPH KEYS\n  gkey why [--workers N] GRAPH KEYS A B\n";
+pub fn usage() -> &'static str {
+    "usage:\n  gkey match [--workers N] GRAPH KEYS\n  gkey prove [--workers N] GRAPH KEYS\n  gkey check GRAPH KEYS PROOF\n  gkey convert PROOF\n  gkey demo N\n  gkey grow [--workers N] GRAPH MORE KEYS\n  gkey merge [--workers N] GRAPH KEYS\n  gkey why [--workers N] GRAPH KEYS A B\n  gkey --help\n  gkey --version\n"
+}
 
-/// A merge of two albums with one name and one year.
+/// A merge of two albums with one name and one year, in constants. Functions take `merge`, which shows their proofs none of its
+/// bytes.
 pub const MERGE: Case<'static> = Case {
     words: &["merge", "g", "k"],
     graph: ALBUMS,
@@ -40,13 +43,17 @@ pub const MERGE: Case<'static> = Case {
     failing: 0,
     limits: Limits::STANDARD,
     status: 0,
-    out: "\
-<urn:al1> <http://www.w3.org/1999/02/22-rdf-syntax-ns#type> <urn:Album> .
-<urn:al1> <urn:name> \"Anthology 2\" .
-<urn:al1> <urn:year> \"1996\" .
-",
+    out: ALBUMS_MERGED,
     err: "",
 };
+
+/// The same.
+pub fn merge() -> Case<'static> {
+    MERGE
+}
+
+/// What a test ends with where there is no memory for it.
+pub const ENOUGH: &str = "enough memory";
 
 /// What a run left.
 #[derive(Drop)]
@@ -57,21 +64,37 @@ pub struct Left {
 }
 
 /// The texts of words.
-fn texts<R: AllocGlobal>(rt: &R, words: &[&str]) -> Result<Vec<Text>, Fail> {
-    let mut texts = Vec::new(rt.alloc());
+pub fn texts(alloc: Global, words: &[&str]) -> Result<Vec<Text>, NoMemory> {
+    let mut texts = Vec::new(alloc);
     for word in words {
-        texts.push(Text::from_bytes(rt.alloc(), word.as_bytes())?)?;
+        texts.push(Text::from_bytes(alloc, word.as_bytes())?)?;
     }
     Ok(texts)
 }
 
-/// What a run with these words and this gate leaves of the files of a case.
-pub fn run_of<R: AllocGlobal + Threads + Wait + Sync, G: Gate>(
+/// A file with its name.
+fn file(alloc: Global, name: &[u8], content: &[u8]) -> Result<(Text, Vec<u8>), NoMemory> {
+    let name = Text::from_bytes(alloc, name)?;
+    Ok((name, Vec::from_slice(alloc, content)?))
+}
+
+/// The files of a case.
+fn files_of(alloc: Global, case: &Case<'_>) -> Result<Vec<(Text, Vec<u8>)>, NoMemory> {
+    let mut files = Vec::new(alloc);
+    files.push(file(alloc, b"g", case.graph)?)?;
+    files.push(file(alloc, b"m", case.more)?)?;
+    files.push(file(alloc, b"k", case.keys)?)?;
+    files.push(file(alloc, b"p", case.proof)?)?;
+    Ok(files)
+}
+
+/// What a run with these words and this gate leaves of the files of a case; none where a limit is beyond that of the program.
+pub fn run_of<R: AllocGlobal + Threads + Wait + Sync + Abort, G: Gate>(
     rt: &R,
     words: &[Text],
     case: &Case<'_>,
     gate: &G,
-) -> Result<Option<Left>, Fail> {
+) -> Option<Left> {
     let limits = case.limits;
     let standard = Limits::STANDARD;
     let within = limits.bytes <= standard.bytes
@@ -79,59 +102,55 @@ pub fn run_of<R: AllocGlobal + Threads + Wait + Sync, G: Gate>(
         && limits.triples <= standard.triples
         && limits.pairs <= standard.pairs;
     if !within {
-        return Ok(None);
+        return None;
     }
     let alloc = rt.alloc();
-    let mut files = Vec::new(alloc);
-    files.push((Text::from_bytes(alloc, b"g")?, case.graph.to_vec(alloc)?))?;
-    files.push((Text::from_bytes(alloc, b"m")?, case.more.to_vec(alloc)?))?;
-    files.push((Text::from_bytes(alloc, b"k")?, case.keys.to_vec(alloc)?))?;
-    files.push((Text::from_bytes(alloc, b"p")?, case.proof.to_vec(alloc)?))?;
-    let mut shelf = MemShelf::new(files, 65_536, vec![in alloc; case.failing]?);
-    let mut out = SureSink::new(alloc, 10_000)?;
-    let mut err = SureSink::new(alloc, 1000)?;
+    let files = files_of(alloc, case).expect(rt, ENOUGH);
+    let failing = [case.failing].to_vec(alloc).expect(rt, ENOUGH);
+    let mut shelf = MemShelf::new(files, 65_536, failing);
+    let mut out = SureSink::new(alloc, 10_000).expect(rt, ENOUGH);
+    let mut err = SureSink::new(alloc, 1000).expect(rt, ENOUGH);
     let status = run_gated(
         rt, alloc, words, &mut shelf, &mut out, &mut err, &limits, gate,
     );
-    Ok(Some(Left {
+    Some(Left {
         status,
-        out: out.bytes().to_vec(alloc)?,
-        err: err.bytes().to_vec(alloc)?,
-    }))
+        out: out.bytes().to_vec(alloc).expect(rt, ENOUGH),
+        err: err.bytes().to_vec(alloc).expect(rt, ENOUGH),
+    })
 }
 
 /// Whether a run with these words leaves what the case says.
-pub fn leaves<R: AllocGlobal + Threads + Wait + Sync>(
+pub fn leaves<R: AllocGlobal + Threads + Wait + Sync + Abort>(
     rt: &R,
     words: &[Text],
     case: &Case<'_>,
-) -> Result<bool, Fail> {
-    match run_of(rt, words, case, &OpenGate)? {
-        Some(left) => Ok(
+) -> bool {
+    match run_of(rt, words, case, &OpenGate) {
+        Some(left) => {
             left.status == case.status
                 && left.out.as_slice() == case.out.as_bytes()
-                && left.err.as_slice() == case.err.as_bytes(),
-        ),
-        None => Ok(false),
+                && left.err.as_slice() == case.err.as_bytes()
+        }
+        None => false,
     }
 }
 
 /// Whether the run of a case leaves what it says.
-pub fn holds<R: AllocGlobal + Threads + Wait + Sync>(
-    rt: &R,
-    case: &Case<'_>,
-) -> Result<bool, Fail> {
-    leaves(rt, &texts(rt, case.words)?, case)
+pub fn holds<R: AllocGlobal + Threads + Wait + Sync + Abort>(rt: &R, case: &Case<'_>) -> bool {
+    let words = texts(rt.alloc(), case.words).expect(rt, ENOUGH);
+    leaves(rt, &words, case)
 }
 
 /// What the run of a case prints with this gate, where it ends with its status.
-pub fn printed<R: AllocGlobal + Threads + Wait + Sync, G: Gate>(
+pub fn printed<R: AllocGlobal + Threads + Wait + Sync + Abort, G: Gate>(
     rt: &R,
     case: &Case<'_>,
     gate: &G,
-) -> Result<Option<Vec<u8>>, Fail> {
-    match run_of(rt, &texts(rt, case.words)?, case, gate)? {
-        Some(left) if left.status == case.status => Ok(Some(left.out)),
-        _ => Ok(None),
+) -> Option<Vec<u8>> {
+    let words = texts(rt.alloc(), case.words).expect(rt, ENOUGH);
+    match run_of(rt, &words, case, gate) {
+        Some(left) if left.status == case.status => Some(left.out),
+        _ => None,
     }
 }

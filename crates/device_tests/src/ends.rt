@@ -2,28 +2,14 @@
 
 ghost use Rattle.std.specs.Prelude.{◌<◌};
 
-use fixtures::texts::{ALBUM_KEY, ALBUMS};
-use gk_base::Text;
+use fixtures::texts::{ALBUM_KEY, ALBUM_PROOF, ALBUMS};
+use gk_base::{NoMemory, Text};
 use gk_io::{MemShelf, MemSink};
 use gkey_cmd::run;
+use std::alloc::Global;
+use std::process::Abort;
 use std::sync::Wait;
-use std::test::Fail;
 use std::thread::Threads;
-
-/// The proof that the two albums are the same.
-pub const ALBUM_PROOF: &str = "\
-gkey-proof 2
-terms 4
-<urn:al1>
-\"Anthology 2\"
-\"1996\"
-<urn:al2>
-step album_year
-left 1 2 3
-right 4 2 3
-done
-end 1
-";
 
 /// A command over the graph `g`, the keys `k` and the proof `p`.
 pub struct Command {
@@ -42,41 +28,55 @@ pub struct End {
     pub err: Vec<u8>,
 }
 
-fn text<R: AllocGlobal>(rt: &R, text: &str) -> Result<Text, Fail> {
-    Ok(Text::from_bytes(rt.alloc(), text.as_bytes())?)
+/// What a test ends with where there is no memory for it.
+const ENOUGH: &str = "enough memory";
+
+/// The texts of words.
+fn texts(alloc: Global, words: &[&str]) -> Result<Vec<Text>, NoMemory> {
+    let mut texts = Vec::new(alloc);
+    for word in words {
+        texts.push(Text::from_bytes(alloc, word.as_bytes())?)?;
+    }
+    Ok(texts)
 }
 
-/// A shelf with the files of the albums, whose call with this number fails; none where it is 0.
-fn shelf<R: AllocGlobal>(rt: &R, read: u64) -> Result<MemShelf, Fail> {
-    let mut files = Vec::new(rt.alloc());
-    files.push((text(rt, "g")?, ALBUMS.to_vec(rt.alloc())?))?;
-    files.push((text(rt, "k")?, ALBUM_KEY.to_vec(rt.alloc())?))?;
-    files.push((text(rt, "p")?, ALBUM_PROOF.as_bytes().to_vec(rt.alloc())?))?;
-    Ok(MemShelf::new(files, 65_536, vec![in rt.alloc(); read]?))
+/// A file with its name.
+fn file(alloc: Global, name: &[u8], content: &[u8]) -> Result<(Text, Vec<u8>), NoMemory> {
+    let name = Text::from_bytes(alloc, name)?;
+    Ok((name, Vec::from_slice(alloc, content)?))
+}
+
+/// The files of the albums.
+fn files(alloc: Global) -> Result<Vec<(Text, Vec<u8>)>, NoMemory> {
+    let mut files = Vec::new(alloc);
+    files.push(file(alloc, b"g", ALBUMS)?)?;
+    files.push(file(alloc, b"k", ALBUM_KEY)?)?;
+    files.push(file(alloc, b"p", ALBUM_PROOF.as_bytes())?)?;
+    Ok(files)
 }
 
 /// What the command leaves where the call of the shelf with the number `read` fails, and that of the output with the number
 /// `write`; none where a number is 0. A call of the output takes at most `most` bytes.
-pub fn end_of<R: AllocGlobal + Threads + Wait + Sync>(
+pub fn end_of<R: AllocGlobal + Threads + Wait + Sync + Abort>(
     rt: &R,
     command: &Command,
     read: u64,
     write: u64,
     most: usize,
-) -> Result<End, Fail>
+) -> End
     requires { 0 < most }
 {
-    let mut words = Vec::new(rt.alloc());
-    for word in command.words {
-        words.push(text(rt, word)?)?;
-    }
-    let mut shelf = shelf(rt, read)?;
-    let mut out = MemSink::new(rt.alloc(), most, 1000, vec![in rt.alloc(); write]?)?;
-    let mut err = MemSink::new(rt.alloc(), 100, 100, Vec::new(rt.alloc()))?;
-    let status = run(rt, rt.alloc(), &words, &mut shelf, &mut out, &mut err);
-    Ok(End {
+    let alloc = rt.alloc();
+    let words = texts(alloc, command.words).expect(rt, ENOUGH);
+    let reads = [read].to_vec(alloc).expect(rt, ENOUGH);
+    let writes = [write].to_vec(alloc).expect(rt, ENOUGH);
+    let mut shelf = MemShelf::new(files(alloc).expect(rt, ENOUGH), 65_536, reads);
+    let mut out = MemSink::new(alloc, most, 1000, writes).expect(rt, ENOUGH);
+    let mut err = MemSink::new(alloc, 100, 100, Vec::new(alloc)).expect(rt, ENOUGH);
+    let status = run(rt, alloc, &words, &mut shelf, &mut out, &mut err);
+    End {
         status,
-        out: out.bytes().to_vec(rt.alloc())?,
-        err: err.bytes().to_vec(rt.alloc())?,
-    })
+        out: out.bytes().to_vec(alloc).expect(rt, ENOUGH),
+        err: err.bytes().to_vec(alloc).expect(rt, ENOUGH),
+    }
 }

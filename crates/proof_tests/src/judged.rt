@@ -21,7 +21,7 @@ pub(crate) struct Case {
     pub(crate) about: &'static str,
     pub(crate) graph: &'static [u8],
     pub(crate) keys: &'static [u8],
-    pub(crate) proof: &'static [u8],
+    pub(crate) proof: &'static str,
     pub(crate) verdict: Verdict,
 }
 
@@ -85,7 +85,7 @@ fn each_proof_has_its_verdict(rt: HostRuntime) -> Result<(), Fail> {
     let alloc = rt.alloc();
     for case in cases::all() {
         let inputs = read_inputs(alloc, case.graph, case.keys)?;
-        let is = is_verdict(alloc, &inputs, case.proof, case.verdict)?;
+        let is = is_verdict(alloc, &inputs, case.proof.as_bytes(), case.verdict)?;
         assert!(rt; is, "{}", case.about);
     }
     Ok(())

@@ -1,49 +1,14 @@
 //! Albums and artists.
 
 use super::{Changes, Judged, Rejected};
+use fixtures::texts::{ALBUM_AND_ARTIST_KEYS, ALBUMS_AND_ARTISTS};
 use proof_check::Reason;
 
 /// Two albums with the same name and year, and two more by their artists.
-static GRAPH: &[u8] = b"\
-        <urn:al1> <http://www.w3.org/1999/02/22-rdf-syntax-ns#type> <urn:Album> .\n\
-        <urn:al2> <http://www.w3.org/1999/02/22-rdf-syntax-ns#type> <urn:Album> .\n\
-        <urn:al1> <urn:name> \"Anthology 2\" .\n\
-        <urn:al2> <urn:name> \"Anthology 2\" .\n\
-        <urn:al1> <urn:year> \"1996\" .\n\
-        <urn:al2> <urn:year> \"1996\" .\n\
-        <urn:al3> <http://www.w3.org/1999/02/22-rdf-syntax-ns#type> <urn:Album> .\n\
-        <urn:al4> <http://www.w3.org/1999/02/22-rdf-syntax-ns#type> <urn:Album> .\n\
-        <urn:al3> <urn:name> \"Help!\" .\n\
-        <urn:al4> <urn:name> \"Help!\" .\n\
-        <urn:ar1> <http://www.w3.org/1999/02/22-rdf-syntax-ns#type> <urn:Artist> .\n\
-        <urn:ar2> <http://www.w3.org/1999/02/22-rdf-syntax-ns#type> <urn:Artist> .\n\
-        <urn:ar1> <urn:name> \"The Beatles\" .\n\
-        <urn:ar2> <urn:name> \"The Beatles\" .\n\
-        <urn:al1> <urn:by> <urn:ar1> .\n\
-        <urn:al2> <urn:by> <urn:ar2> .\n\
-        <urn:al3> <urn:by> <urn:ar1> .\n\
-        <urn:al4> <urn:by> <urn:ar2> .\n";
+static GRAPH: &[u8] = ALBUMS_AND_ARTISTS;
 
 /// Albums by name and year, artists by an album, and albums by an artist.
-static KEYS: &[u8] = b"\
-        key album_year <urn:Album>\n\
-        value $n\n\
-        value $y\n\
-        ?x <urn:name> $n\n\
-        ?x <urn:year> $y\n\
-        end\n\
-        key artist <urn:Artist>\n\
-        entity ?y <urn:Album>\n\
-        value $n\n\
-        ?x <urn:name> $n\n\
-        ?y <urn:by> ?x\n\
-        end\n\
-        key album_by <urn:Album>\n\
-        entity ?y <urn:Artist>\n\
-        value $n\n\
-        ?x <urn:name> $n\n\
-        ?x <urn:by> ?y\n\
-        end\n";
+static KEYS: &[u8] = ALBUM_AND_ARTIST_KEYS;
 
 /// The albums are the same, and the artists.
 static LINES: [&[u8]; 16] = [

@@ -1,6 +1,9 @@
 //! Graphs, key files and proofs, each with its verdict.
 
 use super::Case;
+use fixtures::texts::{
+    ALBUM_AND_ARTIST_KEYS, ALBUM_KEY, ALBUM_PROOF, ALBUM_PROOF_1, ALBUMS, ALBUMS_AND_ARTISTS,
+};
 use proof_check::{Reason, Verdict};
 
 /// Graphs, keys and proofs.
@@ -31,26 +34,8 @@ static CASES: [Case; 9] = [
             <urn:al1> <urn:name> \"Anthology 2\" .\n\
             <urn:al2> <urn:name> \"Anthology 2\" .\n\
             <urn:al1> <urn:year> \"1996\" .\n",
-        keys: b"\
-            key album_year <urn:Album>\n\
-            value $n\n\
-            value $y\n\
-            ?x <urn:name> $n\n\
-            ?x <urn:year> $y\n\
-            end\n\
-            key artist <urn:Artist>\n\
-            entity ?y <urn:Album>\n\
-            value $n\n\
-            ?x <urn:name> $n\n\
-            ?y <urn:by> ?x\n\
-            end\n\
-            key album_by <urn:Album>\n\
-            entity ?y <urn:Artist>\n\
-            value $n\n\
-            ?x <urn:name> $n\n\
-            ?x <urn:by> ?y\n\
-            end\n",
-        proof: b"\
+        keys: ALBUM_AND_ARTIST_KEYS,
+        proof: "\
             gkey-proof 1\n\
             step album_year\n\
             left <urn:al1> \"Anthology 2\" \"1996\"\n\
@@ -71,45 +56,9 @@ static CASES: [Case; 9] = [
     },
     Case {
         about: "the albums' proof in version 2",
-        graph: b"\
-            <urn:al1> <http://www.w3.org/1999/02/22-rdf-syntax-ns#type> <urn:Album> .\n\
-            <urn:al2> <http://www.w3.org/1999/02/22-rdf-syntax-ns#type> <urn:Album> .\n\
-            <urn:al1> <urn:name> \"Anthology 2\" .\n\
-            <urn:al2> <urn:name> \"Anthology 2\" .\n\
-            <urn:al1> <urn:year> \"1996\" .\n\
-            <urn:al2> <urn:year> \"1996\" .\n\
-            <urn:al3> <http://www.w3.org/1999/02/22-rdf-syntax-ns#type> <urn:Album> .\n\
-            <urn:al4> <http://www.w3.org/1999/02/22-rdf-syntax-ns#type> <urn:Album> .\n\
-            <urn:al3> <urn:name> \"Help!\" .\n\
-            <urn:al4> <urn:name> \"Help!\" .\n\
-            <urn:ar1> <http://www.w3.org/1999/02/22-rdf-syntax-ns#type> <urn:Artist> .\n\
-            <urn:ar2> <http://www.w3.org/1999/02/22-rdf-syntax-ns#type> <urn:Artist> .\n\
-            <urn:ar1> <urn:name> \"The Beatles\" .\n\
-            <urn:ar2> <urn:name> \"The Beatles\" .\n\
-            <urn:al1> <urn:by> <urn:ar1> .\n\
-            <urn:al2> <urn:by> <urn:ar2> .\n\
-            <urn:al3> <urn:by> <urn:ar1> .\n\
-            <urn:al4> <urn:by> <urn:ar2> .\n",
-        keys: b"\
-            key album_year <urn:Album>\n\
-            value $n\n\
-            value $y\n\
-            ?x <urn:name> $n\n\
-            ?x <urn:year> $y\n\
-            end\n\
-            key artist <urn:Artist>\n\
-            entity ?y <urn:Album>\n\
-            value $n\n\
-            ?x <urn:name> $n\n\
-            ?y <urn:by> ?x\n\
-            end\n\
-            key album_by <urn:Album>\n\
-            entity ?y <urn:Artist>\n\
-            value $n\n\
-            ?x <urn:name> $n\n\
-            ?x <urn:by> ?y\n\
-            end\n",
-        proof: b"\
+        graph: ALBUMS_AND_ARTISTS,
+        keys: ALBUM_AND_ARTIST_KEYS,
+        proof: "\
             gkey-proof 2\n\
             terms 10\n\
             <urn:al1>\n\
@@ -142,14 +91,8 @@ static CASES: [Case; 9] = [
     Case {
         about: "a proof without steps",
         graph: b"",
-        keys: b"\
-            key album_year <urn:Album>\n\
-            value $n\n\
-            value $y\n\
-            ?x <urn:name> $n\n\
-            ?x <urn:year> $y\n\
-            end\n",
-        proof: b"\
+        keys: ALBUM_KEY,
+        proof: "\
             gkey-proof 1\n\
             end 0\n",
         verdict: Verdict::Accepted { steps: 0 },
@@ -158,7 +101,7 @@ static CASES: [Case; 9] = [
         about: "a proof without steps, and no keys",
         graph: b"",
         keys: b"",
-        proof: b"\
+        proof: "\
             gkey-proof 2\n\
             terms 0\n\
             end 0\n",
@@ -166,51 +109,16 @@ static CASES: [Case; 9] = [
     },
     Case {
         about: "two albums alone",
-        graph: b"\
-            <urn:al1> <http://www.w3.org/1999/02/22-rdf-syntax-ns#type> <urn:Album> .\n\
-            <urn:al2> <http://www.w3.org/1999/02/22-rdf-syntax-ns#type> <urn:Album> .\n\
-            <urn:al1> <urn:name> \"Anthology 2\" .\n\
-            <urn:al2> <urn:name> \"Anthology 2\" .\n\
-            <urn:al1> <urn:year> \"1996\" .\n\
-            <urn:al2> <urn:year> \"1996\" .\n",
-        keys: b"\
-            key album_year <urn:Album>\n\
-            value $n\n\
-            value $y\n\
-            ?x <urn:name> $n\n\
-            ?x <urn:year> $y\n\
-            end\n",
-        proof: b"\
-            gkey-proof 2\n\
-            terms 4\n\
-            <urn:al1>\n\
-            \"Anthology 2\"\n\
-            \"1996\"\n\
-            <urn:al2>\n\
-            step album_year\n\
-            left 1 2 3\n\
-            right 4 2 3\n\
-            done\n\
-            end 1\n",
+        graph: ALBUMS,
+        keys: ALBUM_KEY,
+        proof: ALBUM_PROOF,
         verdict: Verdict::Accepted { steps: 1 },
     },
     Case {
         about: "a step without a key",
-        graph: b"\
-            <urn:al1> <http://www.w3.org/1999/02/22-rdf-syntax-ns#type> <urn:Album> .\n\
-            <urn:al2> <http://www.w3.org/1999/02/22-rdf-syntax-ns#type> <urn:Album> .\n\
-            <urn:al1> <urn:name> \"Anthology 2\" .\n\
-            <urn:al2> <urn:name> \"Anthology 2\" .\n\
-            <urn:al1> <urn:year> \"1996\" .\n\
-            <urn:al2> <urn:year> \"1996\" .\n",
+        graph: ALBUMS,
         keys: b"",
-        proof: b"\
-            gkey-proof 1\n\
-            step album_year\n\
-            left <urn:al1> \"Anthology 2\" \"1996\"\n\
-            right <urn:al2> \"Anthology 2\" \"1996\"\n\
-            done\n\
-            end 1\n",
+        proof: ALBUM_PROOF_1,
         verdict: Verdict::Rejected {
             step: 1,
             reason: Reason::UnknownKey,
@@ -219,20 +127,8 @@ static CASES: [Case; 9] = [
     Case {
         about: "a step in an empty graph",
         graph: b"",
-        keys: b"\
-            key album_year <urn:Album>\n\
-            value $n\n\
-            value $y\n\
-            ?x <urn:name> $n\n\
-            ?x <urn:year> $y\n\
-            end\n",
-        proof: b"\
-            gkey-proof 1\n\
-            step album_year\n\
-            left <urn:al1> \"Anthology 2\" \"1996\"\n\
-            right <urn:al2> \"Anthology 2\" \"1996\"\n\
-            done\n\
-            end 1\n",
+        keys: ALBUM_KEY,
+        proof: ALBUM_PROOF_1,
         verdict: Verdict::Rejected {
             step: 1,
             reason: Reason::TermNotInTheGraph,
@@ -240,18 +136,12 @@ static CASES: [Case; 9] = [
     },
     Case {
         about: "another term at a constant, without its triple",
-        graph: b"\
-            <urn:al1> <http://www.w3.org/1999/02/22-rdf-syntax-ns#type> <urn:Album> .\n\
-            <urn:al2> <http://www.w3.org/1999/02/22-rdf-syntax-ns#type> <urn:Album> .\n\
-            <urn:al1> <urn:name> \"Anthology 2\" .\n\
-            <urn:al2> <urn:name> \"Anthology 2\" .\n\
-            <urn:al1> <urn:year> \"1996\" .\n\
-            <urn:al2> <urn:year> \"1996\" .\n",
+        graph: ALBUMS,
         keys: b"\
             key c <urn:Album>\n\
             ?x <urn:year> \"1996\"\n\
             end\n",
-        proof: b"\
+        proof: "\
             gkey-proof 1\n\
             step c\n\
             left <urn:al1> \"Anthology 2\"\n\
@@ -277,7 +167,7 @@ static CASES: [Case; 9] = [
             key c <urn:Album>\n\
             ?x <urn:year> \"1996\"\n\
             end\n",
-        proof: b"\
+        proof: "\
             gkey-proof 1\n\
             step c\n\
             left <urn:al1> \"Anthology 2\"\n\
