@@ -1,7 +1,13 @@
 //! Graphs in all forms of N-Triples, and graphs that are refused.
 
-use crate::runs::{Case, GOOD, good, holds};
-use crate::texts::ONE_VALUE;
+use crate::runs::{Case, ENOUGH, GOOD, good, holds};
+use crate::texts::albums;
+use fixtures::texts::{ALBUMS, ONE_VALUE};
+use gk_base::NoMemory;
+use std::alloc::Global;
+use std::process::Abort;
+use std::sync::Wait;
+use std::thread::Threads;
 
 const ALIKE: &[u8] = b"\
 <urn:u1> <http://www.w3.org/1999/02/22-rdf-syntax-ns#type> <urn:T> .
@@ -56,24 +62,18 @@ value $i
 end
 ";
 
-const RELATIVE: &[u8] = b"\
-<urn:al1> <http://www.w3.org/1999/02/22-rdf-syntax-ns#type> <urn:Album> .
-<urn:al2> <http://www.w3.org/1999/02/22-rdf-syntax-ns#type> <urn:Album> .
-<a> <urn:p> \"x\" .
-";
+/// A line with a relative IRI.
+const RELATIVE: &[u8] = b"<a> <urn:p> \"x\" .\n";
 
-fn relative() -> &'static [u8] {
-    RELATIVE
+/// A line whose string is not closed.
+const NOT_CLOSED: &[u8] = b"<urn:a> <urn:p> \"x";
+
+/// A graph with a line behind it.
+fn with_line(alloc: Global, graph: &[u8], line: &[u8]) -> Result<Vec<u8>, NoMemory> {
+    let mut longer = graph.to_vec(alloc)?;
+    longer.extend_from_slice(line)?;
+    Ok(longer)
 }
-
-const NOT_CLOSED: &[u8] = b"\
-<urn:al1> <http://www.w3.org/1999/02/22-rdf-syntax-ns#type> <urn:Album> .
-<urn:al2> <http://www.w3.org/1999/02/22-rdf-syntax-ns#type> <urn:Album> .
-<urn:al1> <urn:name> \"Anthology 2\" .
-<urn:al2> <urn:name> \"Anthology 2\" .
-<urn:al1> <urn:year> \"1996\" .
-<urn:al2> <urn:year> \"1996\" .
-<urn:a> <urn:p> \"x";
 
 /// A run that is refused.
 const REFUSED: Case<'static> = Case {
@@ -113,29 +113,44 @@ fn all_forms_of_terms_and_lines_are_read(rt: HostRuntime) {
     }
 }
 
-/// Graphs that are refused, and how.
-static REFUSALS: [(&[u8], &str); 4] = [
-    (NO_LAST_DOT, "graph:5: dot expected\n"),
-    (RELATIVE, "graph:3: relative IRI\n"),
-    (NOT_CLOSED, "graph:7: string not closed\n"),
-    (b"\x1F\x8B\n", "graph:1: not UTF-8\n"),
+/// Graphs with a line behind each, and how they are refused.
+static REFUSALS: [(&[u8], &[u8], &str); 4] = [
+    (NO_LAST_DOT, b"", "graph:5: dot expected\n"),
+    (ALBUMS, RELATIVE, "graph:7: relative IRI\n"),
+    (ALBUMS, NOT_CLOSED, "graph:7: string not closed\n"),
+    (b"", b"\x1F\x8B\n", "graph:1: not UTF-8\n"),
 ];
 
-fn refusals() -> &'static [(&'static [u8], &'static str)] {
+fn refusals() -> &'static [(&'static [u8], &'static [u8], &'static str)] {
     &REFUSALS
+}
+
+/// Whether a graph with this line behind it is refused so, where a call gives so many bytes at the most.
+fn is_refused<R: AllocGlobal + Threads + Wait + Sync + Abort>(
+    rt: &R,
+    graph: &[u8],
+    line: &[u8],
+    most: usize,
+    err: &str,
+) -> bool {
+    let longer = with_line(rt.alloc(), graph, line).expect(rt, ENOUGH);
+    let case = Case {
+        graph: &longer,
+        most,
+        err,
+        ..refused()
+    };
+    holds(rt, &case)
 }
 
 #[test]
 fn refused_graphs_name_their_first_line(rt: HostRuntime) {
-    for (row, (graph, err)) in refusals().iter().enumerate() {
+    for (row, (graph, line, err)) in refusals().iter().enumerate() {
         for most in [1usize, 2, 3, 65_536] {
-            let case = Case {
-                graph,
-                most,
-                err,
-                ..refused()
-            };
-            assert!(rt; holds(&rt, &case), "row {row}, {most} bytes at once");
+            assert!(rt;
+                is_refused(&rt, graph, line, most, err),
+                "row {row}, {most} bytes at once"
+            );
         }
     }
 }
@@ -197,10 +212,11 @@ fn no_byte_is_read_after_a_refused_line(rt: HostRuntime) {
 
 #[test]
 fn a_refused_graph_comes_before_a_missing_key_file(rt: HostRuntime) {
+    let longer = with_line(rt.alloc(), albums(), RELATIVE).expect(&rt, ENOUGH);
     let no_keys = Case {
         words: &["match", "g", "none"],
-        graph: relative(),
-        err: "graph:3: relative IRI\n",
+        graph: &longer,
+        err: "graph:7: relative IRI\n",
         ..refused()
     };
     assert!(rt; holds(&rt, &no_keys));

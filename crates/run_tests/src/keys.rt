@@ -1,8 +1,8 @@
 //! Small graphs with keys, and the classes that follow by hand. In the graphs and keys `%` stands for `rdf:type`.
 
 use crate::runs::{Case, ENOUGH, good, holds};
-use crate::texts::{THREE_CLASSES, album_and_artist_keys, albums_and_artists, three_classes};
-use fixtures::texts::{ALBUM_AND_ARTIST_KEYS, ALBUMS_AND_ARTISTS};
+use crate::texts::{album_and_artist_keys, albums_and_artists, three_classes};
+use fixtures::texts::{ALBUM_AND_ARTIST_KEYS, ALBUMS_AND_ARTISTS, THREE_CLASSES};
 use gk_base::{Limits, NoMemory};
 use std::alloc::Global;
 use std::process::Abort;

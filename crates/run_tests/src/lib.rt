@@ -1,7 +1,8 @@
 //! Tests of whole runs of `gkey_cmd` over files and sinks in memory. They stand in a crate of their own, since a crate with
 //! tests is proved twice.
 //!
-//! - `runs`: words, limits, and devices that fail
+//! - `runs`: limits, devices that fail, and demos
+//! - `words`: words that ask for no command, for help, or for the version
 //! - `graphs`: graphs in all forms of N-Triples, and graphs that are refused
 //! - `keys`: small graphs with keys, and the classes that follow by hand
 //! - `proofs`: proofs that are made, checked and converted
@@ -22,5 +23,7 @@ mod proofs;
 mod runs;
 #[cfg(test)]
 mod texts;
+#[cfg(test)]
+mod words;
 #[cfg(test)]
 mod workers;

@@ -3,90 +3,18 @@
 use crate::keys::with_types;
 use crate::runs::{Case, ENOUGH, good, holds};
 use crate::texts::{album_and_artist_keys, albums_and_artists};
-use fixtures::texts::{ALBUM_AND_ARTIST_KEYS, ALBUM_KEY, ALBUMS, ALBUMS_AND_ARTISTS};
+use fixtures::texts::{
+    ALBUM_AND_ARTIST_KEYS, ALBUM_AND_ARTIST_PROOF, ALBUM_AND_ARTIST_PROOF_1, ALBUM_KEY,
+    ALBUM_PROOF, ALBUM_PROOF_1, ALBUMS, ALBUMS_AND_ARTISTS, ONE_VALUE,
+};
 use gk_base::NoMemory;
 use std::alloc::Global;
 use std::process::Abort;
 use std::sync::Wait;
 use std::thread::Threads;
 
-/// The proof that two albums with one name and one year are the same, in version 1.
-const ALBUM_PROOF_1: &str = "\
-gkey-proof 1
-step album_year
-left <urn:al1> \"Anthology 2\" \"1996\"
-right <urn:al2> \"Anthology 2\" \"1996\"
-done
-end 1
-";
-
-/// The same in version 2.
-const ALBUM_PROOF: &str = "\
-gkey-proof 2
-terms 4
-<urn:al1>
-\"Anthology 2\"
-\"1996\"
-<urn:al2>
-step album_year
-left 1 2 3
-right 4 2 3
-done
-end 1
-";
-
 /// The proof of nothing.
 const NO_STEPS: &str = "gkey-proof 2\nterms 0\nend 0\n";
-
-/// A proof of the three pairs of albums and artists, in both versions.
-const THREE_STEPS_1: &str = "\
-gkey-proof 1
-step album_year
-left <urn:al1> \"Anthology 2\" \"1996\"
-right <urn:al2> \"Anthology 2\" \"1996\"
-done
-step artist
-left <urn:ar1> <urn:al1> \"The Beatles\"
-right <urn:ar2> <urn:al2> \"The Beatles\"
-by 1 1
-done
-step album_by
-left <urn:al3> <urn:ar1> \"Help!\"
-right <urn:al4> <urn:ar2> \"Help!\"
-by 1 2
-done
-end 3
-";
-
-const THREE_STEPS: &str = "\
-gkey-proof 2
-terms 10
-<urn:al1>
-\"Anthology 2\"
-\"1996\"
-<urn:al2>
-<urn:ar1>
-\"The Beatles\"
-<urn:ar2>
-<urn:al3>
-\"Help!\"
-<urn:al4>
-step album_year
-left 1 2 3
-right 4 2 3
-done
-step artist
-left 5 1 6
-right 7 4 6
-by 1 1
-done
-step album_by
-left 8 5 9
-right 10 7 9
-by 1 2
-done
-end 3
-";
 
 /// What a command leaves of a graph, keys and a proof.
 #[derive(Clone, Copy)]
@@ -115,8 +43,6 @@ const STREETS: &[u8] = b"\
 ";
 
 const FOLDED_KEY: &[u8] = b"key k <urn:T>\nfolded $v\n?x <urn:p> $v\nend\n";
-
-const VALUE_KEY: &[u8] = b"key k <urn:T>\nvalue $v\n?x <urn:p> $v\nend\n";
 
 const STREET_PROOF: &str =
     "gkey-proof 1\nstep k\nleft <urn:u1> \"Straße\"\nright <urn:u2> \"STRASSE\"\ndone\nend 1\n";
@@ -179,7 +105,7 @@ static ROWS: [Row; 14] = [
         words: CHECK,
         graph: ALBUMS_AND_ARTISTS,
         keys: ALBUM_AND_ARTIST_KEYS,
-        proof: THREE_STEPS_1,
+        proof: ALBUM_AND_ARTIST_PROOF_1,
         status: 0,
         out: "accepted 3\n",
     },
@@ -187,7 +113,7 @@ static ROWS: [Row; 14] = [
         words: CHECK,
         graph: ALBUMS_AND_ARTISTS,
         keys: ALBUM_AND_ARTIST_KEYS,
-        proof: THREE_STEPS,
+        proof: ALBUM_AND_ARTIST_PROOF,
         status: 0,
         out: "accepted 3\n",
     },
@@ -218,7 +144,7 @@ static ROWS: [Row; 14] = [
     Row {
         words: CHECK,
         graph: STREETS,
-        keys: VALUE_KEY,
+        keys: ONE_VALUE,
         proof: STREET_PROOF,
         status: 1,
         out: "rejected 1: value differs\n",
@@ -235,17 +161,17 @@ static ROWS: [Row; 14] = [
         words: CONVERT,
         graph: b"",
         keys: b"",
-        proof: THREE_STEPS_1,
+        proof: ALBUM_AND_ARTIST_PROOF_1,
         status: 0,
-        out: THREE_STEPS,
+        out: ALBUM_AND_ARTIST_PROOF,
     },
     Row {
         words: CONVERT,
         graph: b"x",
         keys: b"x",
-        proof: THREE_STEPS,
+        proof: ALBUM_AND_ARTIST_PROOF,
         status: 0,
-        out: THREE_STEPS,
+        out: ALBUM_AND_ARTIST_PROOF,
     },
 ];
 
@@ -316,7 +242,7 @@ struct Changed {
 /// A proof of three steps with one line changed that is not accepted.
 const REJECTED: Changed = Changed {
     words: CHECK,
-    proof: THREE_STEPS_1,
+    proof: ALBUM_AND_ARTIST_PROOF_1,
     old: "",
     new: "",
     status: 1,
@@ -327,7 +253,7 @@ const REJECTED: Changed = Changed {
 /// One that is refused.
 const REFUSED: Changed = Changed {
     words: CONVERT,
-    proof: THREE_STEPS,
+    proof: ALBUM_AND_ARTIST_PROOF,
     status: 2,
     ..REJECTED
 };

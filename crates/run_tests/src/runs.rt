@@ -1,7 +1,7 @@
-//! Runs over files in memory, the two albums above all: words, limits, and devices that fail.
+//! Runs over files in memory, the two albums above all: limits, devices that fail, and demos.
 
-use crate::texts::{ONE_VALUE, album_key, albums};
-use fixtures::texts::{ALBUM_KEY, ALBUMS};
+use crate::texts::{album_key, albums};
+use fixtures::texts::{ALBUM_KEY, ALBUMS, ONE_VALUE, TWO_VALUES};
 use gk_base::{Limits, NoMemory, Text};
 use gk_io::{MemShelf, MemSink, SureShelf, SureSink};
 use gkey_cmd::{run, run_gated};
@@ -23,8 +23,6 @@ const TWO_TYPES: &[u8] = b"\
 <urn:f> <urn:q> \"1\" .
 <urn:g> <urn:q> \"1\" .
 ";
-
-const TWO_VALUES: &[u8] = b"key k <urn:T>\nvalue $v\nvalue $w\n?x <urn:p> $v\n?x <urn:q> $w\nend\n";
 
 const TYPE_AS_VALUE: &[u8] = b"\
 key k <urn:T>
@@ -244,7 +242,7 @@ fn limits_refuse_what_is_beyond_them(rt: HostRuntime) {
 }
 
 /// A run that can't read a file.
-fn unread<'a>(reads: &'a [u64], err: &'a str) -> Case<'a> {
+pub fn unread<'a>(reads: &'a [u64], err: &'a str) -> Case<'a> {
     Case {
         reads,
         status: 3,
@@ -311,54 +309,6 @@ fn failed_writes_leave_a_front(rt: HostRuntime) {
             );
         }
     }
-}
-
-/// Words that ask for no command.
-static NO_COMMAND: [&'static [&'static str]; 15] = [
-    &[],
-    &["match", "g"],
-    &["match", "g", "k", "k"],
-    &["matched", "g", "k"],
-    &["prove", "g"],
-    &["check", "g", "k"],
-    &["convert"],
-    &["convert", "p", "p"],
-    &["demo"],
-    &["demo", "0"],
-    &["demo", "100001"],
-    &["prove", "--workers", "0", "g", "k"],
-    &["match", "--worker", "4", "g", "k"],
-    &["match", "--workers", "65", "g", "k"],
-    &["match", "--workers", "04", "g", "k"],
-];
-
-fn no_command() -> &'static [&'static [&'static str]] {
-    &NO_COMMAND
-}
-
-/// What is said of words that ask for no command.
-fn usage() -> &'static str {
-    "usage:\n  gkey match [--workers N] GRAPH KEYS\n  gkey prove [--workers N] GRAPH KEYS\n  gkey check GRAPH KEYS PROOF\n  gkey convert PROOF\n  gkey demo N\n  gkey grow [--workers N] GRAPH MORE KEYS\n  gkey merge [--workers N] GRAPH KEYS\n  gkey why [--workers N] GRAPH KEYS A B\n"
-}
-
-#[test]
-fn other_words_ask_for_no_command(rt: HostRuntime) {
-    for (row, words) in no_command().iter().enumerate() {
-        let case = Case {
-            words,
-            status: 64,
-            out: b"",
-            err: usage(),
-            ..good()
-        };
-        assert!(rt; holds(&rt, &case), "row {row}");
-    }
-    // A word that begins with a dash is a name as any other.
-    let dashes = Case {
-        words: &["match", "--workers", "4"],
-        ..unread(&[], "graph: read failed\n")
-    };
-    assert!(rt; holds(&rt, &dashes));
 }
 
 /// A demo, over a shelf that fails at its first call.

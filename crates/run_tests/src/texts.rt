@@ -1,6 +1,8 @@
 //! Texts that several tests run on. They stand behind functions, so that the proofs of the tests carry none of their bytes.
 
-use fixtures::texts::{ALBUM_AND_ARTIST_KEYS, ALBUM_KEY, ALBUMS, ALBUMS_AND_ARTISTS};
+use fixtures::texts::{
+    ALBUM_AND_ARTIST_KEYS, ALBUM_KEY, ALBUMS, ALBUMS_AND_ARTISTS, ONE_VALUE, THREE_CLASSES,
+};
 
 /// Two albums with the same name and year.
 pub fn albums() -> &'static [u8] {
@@ -23,17 +25,11 @@ pub fn album_and_artist_keys() -> &'static [u8] {
 }
 
 /// The classes of the four albums and their artists.
-pub const THREE_CLASSES: &str = "<urn:al1> <urn:al2>\n<urn:al3> <urn:al4>\n<urn:ar1> <urn:ar2>\n";
-
-/// The same.
 pub fn three_classes() -> &'static str {
     THREE_CLASSES
 }
 
 /// A key of one value.
-pub const ONE_VALUE: &[u8] = b"key k <urn:T>\nvalue $v\n?x <urn:p> $v\nend\n";
-
-/// The same.
 pub fn one_value() -> &'static [u8] {
     ONE_VALUE
 }
