@@ -3,8 +3,9 @@
 //! hands a pair out with a view of the present labels, and settles it by what a search with that view came to: what was
 //! found is always right and is entered, which makes pairs that missed before Ready again where it makes one class of a
 //! name near to the one end and a name near to the other; that nothing was found is kept only where no label of the view has
-//! changed since. So pairs may be searched by many at once, in any order, and the classes come out the same. One thread
-//! that works alone drains a chase: it searches by the present labels themselves, and has no view to show or to compare.
+//! changed since. One who knows that none has settles the pair with nothing compared. So pairs may be searched by many at
+//! once, in any order, and the classes come out the same. One thread that works alone drains a chase: it searches by the
+//! present labels themselves, and has no view to show or to compare.
 //!
 //! - `chase`: the chase and its calls
 //! - `setup`: what a chase works on

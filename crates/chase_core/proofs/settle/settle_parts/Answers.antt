@@ -1,5 +1,5 @@
 -- A pair that was missed.
-use Rattle.std.proofs.Common.{List, ℕ, sym, subst}
+use Rattle.std.proofs.Common.{sym, subst}
 use Rattle.class_book.specs.Classes.{Classes}
 use Rattle.chase_core.specs.declared.ticket.Outcome.{Outcome}
 use Rattle.chase_core.specs.Table.{Standings}

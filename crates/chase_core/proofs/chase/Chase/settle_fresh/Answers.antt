@@ -1,5 +1,5 @@
 -- A settled pair is an event.
-use Rattle.std.proofs.Common.{List, ℕ, ◌≡◌, ◌≢◌, ◌++◌, ◌↔◌, sym, subst}
+use Rattle.std.proofs.Common.{List, ◌≡◌, ◌++◌, ◌↔◌, sym, subst}
 use Rattle.chase_laws.specs.Joined.{Joined}
 use Rattle.chase_laws.specs.Core.{PairAt, IsPresent}
 use Rattle.chase_core.specs.declared.ticket.Settled.TheVariants as settled
