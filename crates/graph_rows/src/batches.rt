@@ -16,7 +16,7 @@ use std::thread::{Threads, join_mut};
 use term_list::Triples;
 
 /// A batch ends with the piece that makes it so many bytes. Each batch but the last costs the start of a thread.
-const BATCH: usize = 524_288;
+const BATCH: usize = 131_072;
 
 /// Reads and feeds the pieces of a batch, or those that are left, and answers whether the file is at its end.
 fn feed_batch<S: Shelf>(

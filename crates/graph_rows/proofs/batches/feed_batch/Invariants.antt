@@ -1,4 +1,4 @@
-use Rattle.std.proofs.Common.{List, ℕ, ◌≡◌, ◌<◌, ◌≤◌, ◌-◌, length, vec_len, IsOk}
+use Rattle.std.proofs.Common.{List, ℕ, ◌≡◌, ◌<◌, ◌≤◌, ◌-◌, ◌+◌, length, vec_len, IsOk}
 use Rattle.graph_rows.specs.Feeding.{FeedsOn, StaysOpen}
 use Rattle.graph_rows.proofs.batches.feed_batch.Given as goal
 
@@ -13,9 +13,9 @@ invariant-pieces g l =
       few : vec_len l.buf ≤ 65536;
       same : l.reader.limits ≡ l.fn.reader.limits;
       running : IsOk l.reader.so_far;
-      within : l.bytes ≤ 1048576;
+      within : l.bytes < 131072 + 65536;
       fed : (gone : List ℕ) × FeedsOn shelf l.fn.shelf l.shelf l.fn.reader l.reader gone × StaysOpen l.fn.reader gone × (l.bytes ≡ length gone);
     }
 
 abbrev pub decreases-pieces : goal.decreases-pieces
-decreases-pieces g l = 524288 - l.bytes
+decreases-pieces g l = 131072 - l.bytes
