@@ -20,7 +20,7 @@ use gk_base::{NoMemory, Term, Text};
 use key_file::{KeyDef, KeyFile, compile};
 use proof_graph::{Proof, ProofStep};
 use std::alloc::Global;
-use term_list::{TermRef, Terms, Triples};
+use term_list::{Terms, Triples};
 use term_table::Names;
 
 /// How many terms a proof may have: names are numbered by four bytes, and rdf:type and the terms of 64 keys, of which each
@@ -35,17 +35,13 @@ fn type_term(alloc: Global) -> Result<Term, NoMemory>
 }
 
 /// Terms as names.
-fn numbers(alloc: Global, terms: &[Term]) -> Result<Names, NoMemory>
+fn numbers(alloc: Global, terms: &Terms) -> Result<Names, NoMemory>
     requires { length terms.now < 2 ^ 32 - 1 }
     ensures { IfOk result (λ names. names ≡ names_of terms.now) }
 {
-    let mut packed = Terms::new(alloc);
-    for term in terms {
-        packed.push(&TermRef::of(term))?;
-    }
     let mut names = Names::new(alloc);
     names.expect(terms.len() as u32);
-    names.intern_all(&packed)?;
+    names.intern_all(terms)?;
     Ok(names)
 }
 
@@ -74,7 +70,7 @@ fn prepare(
     rows: &[[u32; 3]],
     names: &Names,
     keys: &KeyFile,
-    terms: &[Term],
+    terms: &Terms,
 ) -> Result<Prepared, NoMemory>
     requires { AreDistinct terms.now }
     ensures prepared { IfOk result (λ r. IsPrepared keys.now terms.now r.look r.patterns.items) }

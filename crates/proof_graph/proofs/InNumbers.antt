@@ -122,7 +122,7 @@ steps_again terms (step ∷ steps) distinct h =
 
 -- ---- one step more
 
-steps_terms-push : (steps : List StepShape) (step : StepShape) → steps_terms (steps ++ step ∷ []) ≡ steps_terms steps ++ step_terms step
+pub steps_terms-push : (steps : List StepShape) (step : StepShape) → steps_terms (steps ++ step ∷ []) ≡ steps_terms steps ++ step_terms step
 steps_terms-push [] step = append-nil (step_terms step)
 steps_terms-push (s ∷ steps) step = ap (λ l. step_terms s ++ l) (steps_terms-push steps step) ∙ sym (append_assoc (step_terms s) (steps_terms steps) (step_terms step))
 

@@ -7,6 +7,8 @@ mod SupportLemmas
 mod TermLeads
 mod PlacedLemmas
 mod InNumbers
+mod OrderLemmas
+mod NamedLemmas
 mod SlotLemmas
 mod TellsLemmas
 mod PieceLemmas

@@ -1,7 +1,8 @@
 -- A text without its first line.
-use Rattle.std.proofs.Common.{List, [], ◌∷◌, ◌++◌, ℕ, ◌+◌, ◌-◌, ◌<◌, Bool, true, false, ◌&&◌, ◌||◌, ◌==◌, eqb, eqb-true, if◌then◌else◌, fold, length, get_or, take, drop, slice_range, ◌≡◌, inl, inr, refl, sym, ap, ap₂, subst, ◌∙◌, arith, append-nil, append_assoc, length-append}
+use Rattle.std.proofs.Common.{List, [], ◌∷◌, ◌++◌, ℕ, ◌+◌, ◌-◌, ◌<◌, IsUtf8, Bool, true, false, ◌&&◌, ◌||◌, ◌==◌, eqb, eqb-true, if◌then◌else◌, fold, length, get_or, take, drop, slice_range, ◌≡◌, inl, inr, refl, sym, ap, ap₂, subst, ◌∙◌, arith, append-nil, append_assoc, length-append}
 use Rattle.std.proofs.lemmas.Bool.{and_right, and_left, cond-false, or_cases, not-false, cases_eq, ne_eqb}
 use Rattle.std.proofs.lemmas.List.{drop_more, drop_all, length-drop, get_or-drop}
+use Rattle.std.proofs.lemmas.Str.{IsUtf8-take, IsUtf8-drop, IsCharBoundary-before_ascii, IsCharBoundary-after_ascii}
 use Rattle.std.specs.List.{AllPass}
 use Rattle.std.proofs.lemmas.List.Folds.{drop_split}
 use Rattle.nt_lex.specs.Scans.{IsRunAt}
@@ -133,6 +134,31 @@ front text end = ap (λ n. take n text) (same end)
   where
     same : (n : ℕ) → n - 0 ≡ n
     same n = omega arith
+
+-- in a text in UTF-8 so are the line before an ASCII byte and what comes after this byte
+pub utf8_parts : (text : List ℕ) (end : ℕ) → end < length text → get_or text end 0 < 128 → IsUtf8 text → IsUtf8 (take end text) × IsUtf8 (take (length text - (end + 1)) (drop (end + 1) text))
+utf8_parts text end inside ascii u = (
+  IsUtf8-take text end u (IsCharBoundary-before_ascii text end inside ascii),
+  subst IsUtf8 (sym (to_the_end text (end + 1))) (IsUtf8-drop text (end + 1) u (IsCharBoundary-after_ascii text end u inside ascii)),
+)
+
+-- and where two of them end the line
+pub utf8_parts_two : (text : List ℕ) (end : ℕ) → end + 1 < length text → get_or text end 0 < 128 → get_or text (end + 1) 0 < 128 → IsUtf8 text → IsUtf8 (take end text) × IsUtf8 (take (length text - (end + 2)) (drop (end + 2) text))
+utf8_parts_two text end inside first second u = (
+  IsUtf8-take text end u (IsCharBoundary-before_ascii text end (omega arith) first),
+  subst (λ n. IsUtf8 (take (length text - n) (drop n text))) (plus end)
+      (subst IsUtf8 (sym (to_the_end text (end + 1 + 1))) (IsUtf8-drop text (end + 1 + 1) u (IsCharBoundary-after_ascii text (end + 1) u inside second))),
+)
+  where
+    plus : (n : ℕ) → n + 1 + 1 ≡ n + 2
+    plus n = omega arith
+
+-- a byte that ends a line is ASCII
+pub end_ascii : (b : ℕ) → is_line_byte b ≡ false → b < 128
+end_ascii b ends = elim (cases_eq b 0x0A) [
+  | inl feed ↦ omega arith
+  | inr other ↦ let return = line_end_is b ends other in omega arith
+]
 
 -- a carriage return and a line feed end the line
 pub split_pair : (text : List ℕ) (end : ℕ) → IsRunAt is_line_byte text 0 end → get_or text end 0 ≡ 0x0D → end + 1 < length text → get_or text (end + 1) 0 ≡ 0x0A

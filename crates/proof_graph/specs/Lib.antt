@@ -11,6 +11,7 @@ pub mod Faults
 pub mod Tree
 pub mod Parts
 pub mod TermNumbers
+pub mod InOrder
 pub mod Built
 pub mod Progress
 pub mod Splitting

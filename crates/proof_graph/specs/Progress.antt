@@ -29,34 +29,34 @@ ItemsAre computed (Ok v) = computed ≡ Ok v.items
 ItemsAre computed (Err NoMemory) = Unit {0}
 ItemsAre computed (Err (Fault fault)) = computed ≡ Err fault
 
--- numbers are those of names, of which there are so many
+-- numbers are those of terms, of which there are so many
 abbrev pub AreBelow : ℕ → List ℕ → Type 0
 AreBelow count numbers = All (λ n. n < count) numbers
 
--- the term that stands at a place was read, with the place after it, and its number among the names is this
-pub record TermRead (names : List Term) (line : List ℕ) (at number end : ℕ) : Type 0 where
-  pub says : Says line at (Ok (term_at names number, end))
-  pub below : number < length names
+-- the term that stands at a place was read, with the place after it, and its number among the terms is this
+pub record TermRead (terms : List Term) (line : List ℕ) (at number end : ℕ) : Type 0 where
+  pub says : Says line at (Ok (term_at terms number, end))
+  pub below : number < length terms
   pub later : at < end
   pub inside : end ≤ length line
 
 -- the term that stands at a place was read, or its fault was told
 abbrev pub TermTold : List Term → List ℕ → ℕ → Result (ℕ × ℕ) ProofLineStop → Type 0
-TermTold names line at (Ok read) = TermRead names line at read.0 read.1
-TermTold names line at (Err NoMemory) = Unit {0}
-TermTold names line at (Err (Fault fault)) = (lex : LexFault) × (fault ≡ Lex lex) × Says line at (Err lex)
+TermTold terms line at (Ok read) = TermRead terms line at read.0 read.1
+TermTold terms line at (Err NoMemory) = Unit {0}
+TermTold terms line at (Err (Fault fault)) = (lex : LexFault) × (fault ≡ Lex lex) × Says line at (Err lex)
 
 -- the numbers of terms were answered, where these terms were to be, or their fault
 abbrev pub SideTold : List Term → (Result (List Term) ProofFault → Type 0) → Result (Vec ℕ Global) ProofLineStop → Type 0
-SideTold names Tells (Ok v) = Tells (Ok (map (term_at names) v.items)) × AreBelow (length names) v.items
-SideTold names Tells (Err NoMemory) = Unit {0}
-SideTold names Tells (Err (Fault fault)) = Tells (Err fault)
+SideTold terms Tells (Ok v) = Tells (Ok (map (term_at terms) v.items)) × AreBelow (length terms) v.items
+SideTold terms Tells (Err NoMemory) = Unit {0}
+SideTold terms Tells (Err (Fault fault)) = Tells (Err fault)
 
 -- the number of a term was answered, where this term was to be, or its fault
 abbrev pub OneTermTold : List Term → (Result Term ProofFault → Type 0) → Result ℕ ProofLineStop → Type 0
-OneTermTold names Tells (Ok n) = Tells (Ok (term_at names n)) × (n < length names)
-OneTermTold names Tells (Err NoMemory) = Unit {0}
-OneTermTold names Tells (Err (Fault fault)) = Tells (Err fault)
+OneTermTold terms Tells (Ok n) = Tells (Ok (term_at terms n)) × (n < length terms)
+OneTermTold terms Tells (Err NoMemory) = Unit {0}
+OneTermTold terms Tells (Err (Fault fault)) = Tells (Err fault)
 
 -- terms and more of them, where there is no fault
 abbrev pub more_of : {X : Type 0} → List X → Result (List X) ProofFault → Result (List X) ProofFault
@@ -67,26 +67,26 @@ more_of xs (Ok ys) = Ok (xs ++ ys)
 abbrev pub ReadsOn : List ℕ → ℕ → ℕ → List Term → Type 0
 ReadsOn line begin at terms = (rest : Result (List Term) ProofFault) → TermsSay line at rest → TermsSay line begin (more_of terms rest)
 
--- a stage with the terms of these names
+-- a stage with these terms for its numbers
 abbrev pub stage_with : List Term → Stage → StageShape
-stage_with names stage.Header = AtHeader
-stage_with names stage.Count = AtCount
-stage_with names (stage.Term n) = AtTerm n
-stage_with names stage.Step = AtStep
-stage_with names (stage.Left key) = AtLeft key
-stage_with names (stage.Right key left) = AtRight key (map (term_at names) left.items)
-stage_with names (stage.Support step) = AtSupport (step_with names step)
-stage_with names stage.End = AtEnd
+stage_with terms stage.Header = AtHeader
+stage_with terms stage.Count = AtCount
+stage_with terms (stage.Term n) = AtTerm n
+stage_with terms stage.Step = AtStep
+stage_with terms (stage.Left key) = AtLeft key
+stage_with terms (stage.Right key left) = AtRight key (map (term_at terms) left.items)
+stage_with terms (stage.Support step) = AtSupport (step_with terms step)
+stage_with terms stage.End = AtEnd
 
--- what has come of a file, with the terms of these names, at a stage
+-- what has come of a file, with these terms for its numbers, at a stage
 abbrev pub state_with : List Term → Known → StageShape → ProofState
-state_with names known stage = record { version = known.version; terms = map (term_at names) known.listed.items; steps = map (step_with names) known.steps.items; stage = stage }
+state_with terms known stage = record { version = known.version; terms = map (term_at terms) known.listed.items; steps = map (step_with terms) known.steps.items; stage = stage }
 
--- a file as far as it was read, with the terms of these names
+-- a file as far as it was read, with these terms for its numbers
 abbrev pub progress_with : List Term → Progress → ProofState
-progress_with names progress = state_with names progress.known (stage_with names progress.stage)
+progress_with terms progress = state_with terms progress.known (stage_with terms progress.stage)
 
--- the numbers in what has come are those of names, of which there are so many
+-- the numbers in what has come are those of terms, of which there are so many
 pub record IsKnownBelow (count : ℕ) (known : Known) : Type 0 where
   pub listed : AreBelow count known.listed.items
   pub steps : All (IsNumberedBelow count) known.steps.items
@@ -109,6 +109,6 @@ pub record IsBelow (count : ℕ) (progress : Progress) : Type 0 where
 
 -- what a line says was done, or its fault was told
 abbrev pub IsDone : List Term → (Result ProofState ProofFault → Type 0) → Result Progress ProofLineStop → Type 0
-IsDone names Tells (Ok next) = Tells (Ok (progress_with names next)) × IsBelow (length names) next
-IsDone names Tells (Err NoMemory) = Unit {0}
-IsDone names Tells (Err (Fault fault)) = Tells (Err fault)
+IsDone terms Tells (Ok next) = Tells (Ok (progress_with terms next)) × IsBelow (length terms) next
+IsDone terms Tells (Err NoMemory) = Unit {0}
+IsDone terms Tells (Err (Fault fault)) = Tells (Err fault)

@@ -12,36 +12,36 @@ use Rattle.proof_graph.specs.Progress.{progress_with, IsBelow}
 
 -- the line of this number was read, or refused
 abbrev pub LineTold : List Term → ProofState → List ℕ → ℕ → Result Progress (Stop ProofRefusal) → Type 0
-LineTold names p line number (Ok next) = ProofLineSays p line (Ok (progress_with names next)) × IsBelow (length names) next
-LineTold names p line number (Err NoMemory) = Unit {0}
-LineTold names p line number (Err (Fault refusal)) = (refusal.line ≡ number) × ProofLineSays p line (Err refusal.fault)
+LineTold terms p line number (Ok next) = ProofLineSays p line (Ok (progress_with terms next)) × IsBelow (length terms) next
+LineTold terms p line number (Err NoMemory) = Unit {0}
+LineTold terms p line number (Err (Fault refusal)) = (refusal.line ≡ number) × ProofLineSays p line (Err refusal.fault)
 
 -- the lines that end in a text come to this: whatever lines follow, the text and they say what they say after it
-pub record HasReadLines (names : List Term) (text : List ℕ) (progress : Progress) (number : ℕ) (rest : List ℕ) (returned : Bool) : Type 0 where
-  pub on : (more : List (List ℕ)) (answer : Result ProofState ProofRefusal) → ProofLinesSay (progress_with names progress) number more answer
+pub record HasReadLines (terms : List Term) (text : List ℕ) (progress : Progress) (number : ℕ) (rest : List ℕ) (returned : Bool) : Type 0 where
+  pub on : (more : List (List ℕ)) (answer : Result ProofState ProofRefusal) → ProofLinesSay (progress_with terms progress) number more answer
       → ProofLinesSay proof_start 1 ((cut_of text).ended ++ more) answer
   pub rest_is : rest ≡ (cut_of text).rest
   pub returned_is : returned ≡ (cut_of text).returned
   pub number_is : number ≡ length (cut_of text).ended + 1
-  pub below : IsBelow (length names) progress
+  pub below : IsBelow (length terms) progress
 
 -- the lines that end in a text were read, or one of them was refused
 abbrev pub LinesTold : List Term → List ℕ → Result ReadLines (Stop ProofRefusal) → Type 0
-LinesTold names text (Ok read) = HasReadLines names text read.progress read.number read.rest.now read.returned
-LinesTold names text (Err NoMemory) = Unit {0}
-LinesTold names text (Err (Fault refusal)) = (more : List (List ℕ)) → ProofLinesSay proof_start 1 ((cut_of text).ended ++ more) (Err refusal)
+LinesTold terms text (Ok read) = HasReadLines terms text read.progress read.number read.rest.now read.returned
+LinesTold terms text (Err NoMemory) = Unit {0}
+LinesTold terms text (Err (Fault refusal)) = (more : List (List ℕ)) → ProofLinesSay proof_start 1 ((cut_of text).ended ++ more) (Err refusal)
 
 -- all lines of a text come to this, and the last one has this number
-pub record HasReadAll (names : List Term) (text : List ℕ) (progress : Progress) (last : ℕ) : Type 0 where
-  pub says : ProofLinesSay proof_start 1 (lines text) (Ok (progress_with names progress))
+pub record HasReadAll (terms : List Term) (text : List ℕ) (progress : Progress) (last : ℕ) : Type 0 where
+  pub says : ProofLinesSay proof_start 1 (lines text) (Ok (progress_with terms progress))
   pub last_is : last ≡ length (lines text)
-  pub below : IsBelow (length names) progress
+  pub below : IsBelow (length terms) progress
 
 -- all lines of a text were read, or one of them was refused
 abbrev pub AllLinesTold : List Term → List ℕ → Result (Progress × ℕ) (Stop ProofRefusal) → Type 0
-AllLinesTold names text (Ok read) = HasReadAll names text read.0 read.1
-AllLinesTold names text (Err NoMemory) = Unit {0}
-AllLinesTold names text (Err (Fault refusal)) = ProofLinesSay proof_start 1 (lines text) (Err refusal)
+AllLinesTold terms text (Ok read) = HasReadAll terms text read.0 read.1
+AllLinesTold terms text (Err NoMemory) = Unit {0}
+AllLinesTold terms text (Err (Fault refusal)) = ProofLinesSay proof_start 1 (lines text) (Err refusal)
 
 -- the number of the line to which the next byte belongs: a line feed right after a carriage return belongs to the line before
 abbrev pub next_number : ℕ → Bool → ℕ → ℕ

@@ -106,13 +106,13 @@ fn step(
 ) -> Result<ProofStep, NoMemory>
     requires few { length ways.now < 2 ^ 32 }
     requires distinct { AreDistinct names.now }
-    requires places { NotesPlaces names.now numbers.old.terms.items numbers.old.places.items }
+    requires places { NotesPlaces names.now numbers.old.terms numbers.old.places.items }
     requires fits { FitsPattern (length names.now) ways.now pattern.now entry.now }
-    ensures terms { OnOk result (numbers.new.terms.items ≡
-        with_terms numbers.old.terms.items (step_terms (built_step names.now ways.now pattern.now key.now entry.now))) }
+    ensures terms { OnOk result (numbers.new.terms ≡
+        with_terms numbers.old.terms (step_terms (built_step names.now ways.now pattern.now key.now entry.now))) }
     ensures step { IfOk result (λ s. s ≡
-        in_numbers numbers.new.terms.items (built_step names.now ways.now pattern.now key.now entry.now)) }
-    ensures places { OnOk result (NotesPlaces names.now numbers.new.terms.items numbers.new.places.items) }
+        in_numbers numbers.new.terms (built_step names.now ways.now pattern.now key.now entry.now)) }
+    ensures places { OnOk result (NotesPlaces names.now numbers.new.terms numbers.new.places.items) }
 {
     let slots = pattern.slots();
     let left = numbers.numbers(alloc, names, &listed(alloc, &entry.left)?)?;

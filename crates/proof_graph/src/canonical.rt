@@ -7,7 +7,8 @@ ghost use Rattle.term_text.specs.Appending.{BeginsWith};
 ghost use Rattle.proof_graph.specs.CanonicalProof.{numbers_text, support_text, side_text, key_line, step_text, listed_text, count_text, numbered_text, proof_text};
 
 use crate::{Proof, ProofStep, Support};
-use gk_base::{NoMemory, Term, Text};
+use gk_base::{NoMemory, Text};
+use term_list::{TermRef, Terms};
 use term_text::put_term;
 
 /// Appends these bytes.
@@ -127,21 +128,22 @@ fn put_steps(buf: &mut Vec<u8>, steps: &[ProofStep]) -> Result<(), NoMemory>
 }
 
 /// Appends the line of a listed term.
-fn put_listed(buf: &mut Vec<u8>, term: &Term) -> Result<(), NoMemory>
+fn put_listed(buf: &mut Vec<u8>, term: &TermRef<'_>) -> Result<(), NoMemory>
     ensures ok { OnOk result (buf.new.items ≡ buf.old.items ++ listed_text term.now) }
     ensures kept { BeginsWith buf.old.items buf.new.items }
 {
-    put_term(buf, term)?;
+    let alloc = *buf.allocator();
+    put_term(buf, &term.to_term(alloc)?)?;
     put(buf, b"\n")
 }
 
 /// Appends the lines of listed terms.
-fn put_terms(buf: &mut Vec<u8>, terms: &[Term]) -> Result<(), NoMemory>
+fn put_terms(buf: &mut Vec<u8>, terms: &Terms) -> Result<(), NoMemory>
     ensures ok { OnOk result (buf.new.items ≡ buf.old.items ++ flat_map listed_text terms.now) }
     ensures kept { BeginsWith buf.old.items buf.new.items }
 {
-    for term in terms {
-        put_listed(buf, term)?;
+    for place in 0..terms.len() {
+        put_listed(buf, &terms.get(place))?;
     }
     Ok(())
 }
@@ -157,7 +159,7 @@ fn put_count(buf: &mut Vec<u8>, word: &[u8], count: usize) -> Result<(), NoMemor
 }
 
 /// Appends the lines of a proof with these terms and these steps.
-fn append_proof(buf: &mut Vec<u8>, terms: &[Term], steps: &[ProofStep]) -> Result<(), NoMemory>
+fn append_proof(buf: &mut Vec<u8>, terms: &Terms, steps: &[ProofStep]) -> Result<(), NoMemory>
     ensures ok { OnOk result (buf.new.items ≡ buf.old.items ++ numbered_text terms.now steps.now) }
     ensures kept { BeginsWith buf.old.items buf.new.items }
 {

@@ -17,6 +17,7 @@
 //! - `progress`, `stage`: a file as far as it was read
 //! - `line`: a file after one more line
 //! - `splitting`, `read_lines`: the lines of a file
+//! - `in_order`, `renumbering`: the proof of steps whose terms are numbered as a file lists them
 //! - `read`: reads a proof file
 //! - `laws`: what holds of proof files for every text
 #![tactic(auto)]
@@ -25,6 +26,7 @@ mod build;
 mod canonical;
 mod decimals;
 mod fault;
+mod in_order;
 mod laws;
 mod line;
 mod meeting;
@@ -33,6 +35,7 @@ mod progress;
 mod proof;
 mod read;
 mod read_lines;
+mod renumbering;
 mod sides;
 mod slot_support;
 mod splitting;

@@ -1,8 +1,8 @@
 //! Proofs.
 
 use crate::ProofStep;
-use gk_base::Term;
 use std::marker::Model;
+use term_list::Terms;
 
 /// A proof: its terms, each once, and its steps, which have the terms by their numbers. Contracts see it as the list of the
 /// steps, each with its terms.
@@ -11,7 +11,7 @@ use std::marker::Model;
 /// right ones, and no other, and that the numbers of the steps are places among them.
 #[derive(Drop)]
 pub struct Proof {
-    pub terms: Vec<Term>,
+    pub terms: Terms,
     pub steps: Vec<ProofStep>,
 }
 
@@ -21,7 +21,7 @@ impl Model for Proof {
 
     ghost Value = { List StepShape };
 
-    ghost view = { λ p. map (step_with p.terms.items) p.steps.items };
+    ghost view = { λ p. map (step_with p.terms) p.steps.items };
 
-    ghost invariant = { λ p. IsProof p.terms.items p.steps.items };
+    ghost invariant = { λ p. IsProof p.terms p.steps.items };
 }

@@ -1,84 +1,33 @@
 //! Reads a proof file.
 
-ghost use Rattle.std.specs.Prelude.{◌≡◌, ◌<◌, ◌^◌, List, Result, IfOk, OnOk, All, length, map, take};
+ghost use Rattle.std.specs.Prelude.{◌≡◌, ◌<◌, ◌^◌, List, Result, IfOk, length, take};
 ghost use Rattle.gk_base.specs.Answers.{IsSo, Gives};
-ghost use Rattle.proof_graph.specs.Steps.{StepShape, step_terms, step_with, in_numbers, IsNumberedBelow};
+ghost use Rattle.proof_graph.specs.Steps.{StepShape};
 ghost use Rattle.proof_graph.specs.ProofText.{ProofSays, proof_ended};
 ghost use Rattle.proof_graph.specs.CanonicalProof.{CanBeRead};
 ghost use Rattle.proof_graph.specs.Progress.{progress_with, IsBelow};
 ghost use Rattle.proof_graph.specs.ReadLines.{next_number};
 ghost use Rattle.proof_graph.specs.declared.fault.ProofRefusal.{ProofRefusal};
-ghost use Rattle.proof_graph.specs.TermNumbers.{NotesPlaces};
-ghost use Rattle.term_table.specs.Numbering.{with_terms, AreDistinct};
 
+use crate::Proof;
 use crate::fault::{ProofFault, ProofRefusal, ProofStop};
 use crate::progress::{Known, Progress};
 use crate::read_lines::{ReadLines, read_last, read_lines};
+use crate::renumbering::proof_of_steps;
 use crate::stage::Stage;
-use crate::term_numbers::TermNumbers;
-use crate::{Proof, ProofStep};
-use gk_base::NoMemory;
 use std::alloc::Global;
-use term_table::Names;
-
-/// The step with the numbers that its terms have in a proof.
-fn renumbered_step(
-    alloc: Global,
-    names: &Names,
-    numbers: &mut TermNumbers,
-    step: ProofStep,
-) -> Result<ProofStep, NoMemory>
-    requires places { NotesPlaces names.now numbers.old.terms.items numbers.old.places.items }
-    requires below { IsNumberedBelow (length names.now) step }
-    requires distinct { AreDistinct names.now }
-    ensures terms { OnOk result (numbers.new.terms.items ≡
-        with_terms numbers.old.terms.items (step_terms (step_with names.now step))) }
-    ensures step { IfOk result (λ s. s ≡ in_numbers numbers.new.terms.items (step_with names.now step)) }
-    ensures places { OnOk result (NotesPlaces names.now numbers.new.terms.items numbers.new.places.items) }
-{
-    let ProofStep {
-        key,
-        left,
-        right,
-        supports,
-    } = step;
-    let left = numbers.numbers(alloc, names, &left)?;
-    let right = numbers.numbers(alloc, names, &right)?;
-    Ok(ProofStep {
-        key,
-        left,
-        right,
-        supports,
-    })
-}
-
-/// The proof of these steps, whose terms are numbered as names.
-fn renumbered(alloc: Global, names: &Names, steps: Vec<ProofStep>) -> Result<Proof, NoMemory>
-    requires { All (IsNumberedBelow (length names.now)) steps.items }
-    ensures { IfOk result (λ proof. proof ≡ map (step_with names.now) steps.items) }
-{
-    let _distinct = names.len();
-    let mut numbers = TermNumbers::new(alloc, names)?;
-    let mut made = Vec::with_capacity(alloc, steps.len())?;
-    for step in steps {
-        made.push(renumbered_step(alloc, names, &mut numbers, step)?)?;
-    }
-    Ok(Proof {
-        terms: numbers.terms,
-        steps: made,
-    })
-}
+use term_list::Terms;
 
 /// The proof of a file whose lines are all good, and of which the last has this number.
-fn proof_of(alloc: Global, names: &Names, progress: Progress, last: u64) -> Result<Proof, ProofStop>
-    requires { IsBelow (length names.now) progress }
-    ensures { IsSo (λ answer. answer ≡ proof_ended (progress_with names.now progress) (progress_with names.now progress).stage last) result }
+fn proof_of(alloc: Global, terms: Terms, progress: Progress, last: u64) -> Result<Proof, ProofStop>
+    requires { IsBelow (length terms) progress }
+    ensures { IsSo (λ answer. answer ≡ proof_ended (progress_with terms progress) (progress_with terms progress).stage last) result }
 {
     let Progress { known, stage } = progress;
     match stage {
         Stage::End => {
             let Known { steps, .. } = known;
-            Ok(renumbered(alloc, names, steps)?)
+            Ok(proof_of_steps(alloc, terms, steps)?)
         }
         Stage::Header => Err(ProofStop::Fault(ProofRefusal {
             line: 1,
@@ -117,16 +66,16 @@ fn next_line(lines: &ReadLines<'_>, byte: u8) -> u64
 fn proof_answer(alloc: Global, bytes: &[u8], limit: u64) -> Result<Proof, ProofStop>
     ensures { IsSo (ProofSays limit bytes.now) result }
 {
-    let mut names = Names::new(alloc);
-    let lines = read_lines(alloc, &mut names, front(bytes, limit))?;
+    let mut terms = Terms::new(alloc);
+    let lines = read_lines(alloc, &mut terms, front(bytes, limit))?;
     if limit < bytes.len() as u64 {
         return Err(ProofStop::Fault(ProofRefusal {
             line: next_line(&lines, bytes[limit as usize]),
             fault: ProofFault::FileTooLong,
         }));
     }
-    let (progress, last) = read_last(alloc, &mut names, bytes, lines)?;
-    proof_of(alloc, &names, progress, last)
+    let (progress, last) = read_last(alloc, &mut terms, bytes, lines)?;
+    proof_of(alloc, terms, progress, last)
 }
 
 /// Reads a proof file of at most `limit` bytes, of version 1 or 2. Its lines are judged in order, each that ends within the

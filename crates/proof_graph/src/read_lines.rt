@@ -1,6 +1,6 @@
 //! Reads the lines of a proof file.
 
-ghost use Rattle.std.specs.Prelude.{length};
+ghost use Rattle.std.specs.Prelude.{IsTrue, IsUtf8, length};
 ghost use Rattle.proof_graph.specs.Progress.{progress_with, IsBelow};
 ghost use Rattle.proof_graph.specs.ReadLines.{HasReadLines, LineTold, LinesTold, AllLinesTold};
 
@@ -11,7 +11,7 @@ use crate::splitting::split_line;
 use crate::stage::Stage;
 use crate::version::Version;
 use std::alloc::Global;
-use term_table::Names;
+use term_list::Terms;
 
 /// What the lines that end in a text come to.
 #[derive(Drop)]
@@ -25,18 +25,20 @@ pub(crate) struct ReadLines<'a> {
     pub(crate) returned: bool,
 }
 
-/// The file after the line of this number, or its refusal.
+/// The file after the line of this number, which may be known to be UTF-8, or its refusal.
 fn judge(
     alloc: Global,
-    names: &mut Names,
+    terms: &mut Terms,
     progress: Progress,
     number: u64,
     line: &[u8],
+    known: bool,
 ) -> Result<Progress, ProofStop>
-    requires { IsBelow (length names.old) progress }
-    ensures { LineTold names.new (progress_with names.old progress) line.now number result }
+    requires below { IsBelow (length terms.old) progress }
+    requires utf8 { IsTrue known → IsUtf8 line.now }
+    ensures { LineTold terms.new (progress_with terms.old progress) line.now number result }
 {
-    match after_line(alloc, names, progress, line) {
+    match after_line(alloc, terms, progress, line, known) {
         Ok(progress) => Ok(progress),
         Err(LineStop::NoMemory) => Err(ProofStop::NoMemory),
         Err(LineStop::Fault(fault)) => Err(ProofStop::Fault(ProofRefusal {
@@ -49,10 +51,10 @@ fn judge(
 /// Reads the lines that end in a text.
 pub(crate) fn read_lines<'a>(
     alloc: Global,
-    names: &mut Names,
+    terms: &mut Terms,
     text: &'a [u8],
 ) -> Result<ReadLines<'a>, ProofStop>
-    ensures { LinesTold names.new text.now result }
+    ensures { LinesTold terms.new text.now result }
 {
     let mut progress = Progress {
         known: Known {
@@ -62,11 +64,13 @@ pub(crate) fn read_lines<'a>(
         },
         stage: Stage::Header,
     };
+    // Where the whole text is UTF-8, so is each of its lines.
+    let is_utf8 = simdutf8::is_utf8(text);
     let mut number = 1u64;
     let mut rest = text;
     let mut returned = false;
     while let Some(split) = split_line(rest) {
-        progress = judge(alloc, names, progress, number, split.line)?;
+        progress = judge(alloc, terms, progress, number, split.line, is_utf8)?;
         number += 1;
         rest = split.rest;
         returned = split.returned;
@@ -82,12 +86,12 @@ pub(crate) fn read_lines<'a>(
 /// Reads the last line of a text too, which has no end, if there is one. The lines are those of the text.
 pub(crate) fn read_last(
     alloc: Global,
-    names: &mut Names,
+    terms: &mut Terms,
     text: &[u8],
     lines: ReadLines<'_>,
 ) -> Result<(Progress, u64), ProofStop>
-    requires { HasReadLines names.old text.now lines.progress lines.number lines.rest.now lines.returned }
-    ensures { AllLinesTold names.new text.now result }
+    requires { HasReadLines terms.old text.now lines.progress lines.number lines.rest.now lines.returned }
+    ensures { AllLinesTold terms.new text.now result }
 {
     let ReadLines {
         progress,
@@ -98,6 +102,6 @@ pub(crate) fn read_last(
     if rest.is_empty() {
         return Ok((progress, number.saturating_sub(1)));
     }
-    let progress = judge(alloc, names, progress, number, rest)?;
+    let progress = judge(alloc, terms, progress, number, rest, false)?;
     Ok((progress, number))
 }

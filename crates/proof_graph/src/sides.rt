@@ -11,14 +11,12 @@ ghost use Rattle.proof_graph.specs.Progress.{ItemsAre, TermTold, SideTold, OneTe
 
 use crate::decimals::decimal_number;
 use crate::fault::{LineStop, ProofFault};
+use crate::term_numbers::MOST_TERMS;
 use crate::words::{first_word, next_word};
-use gk_base::{LexStop, NoMemory, Term};
-use nt_lex::{read_object, skip_space};
+use gk_base::{LexStop, NoMemory};
+use nt_lex::{lex_object, skip_space};
 use std::alloc::Global;
-use term_table::Names;
-
-/// How many terms may have come, so that one more has a number of four bytes.
-const MOST_NAMES: u32 = 4294967294;
+use term_list::{TermRef, Terms};
 
 /// What has the number that a word is in a list.
 fn numbered_one(listed: &[u32], word: &[u8]) -> Result<u32, ProofFault>
@@ -67,15 +65,17 @@ pub(crate) fn numbered_side(
     numbered_all(alloc, listed, rest)
 }
 
-/// The number of a term, which becomes a name.
-fn number(names: &mut Names, term: Term) -> Result<u32, NoMemory>
-    ensures grown { HasMoreNames names.old names.new }
-    ensures number { IfOk result (λ n. slice_get names.new n ≡ Some term) }
+/// The number of a term, which is put behind those that have come.
+fn number(terms: &mut Terms, term: &TermRef<'_>) -> Result<u32, NoMemory>
+    ensures grown { HasMoreNames terms.old terms.new }
+    ensures number { IfOk result (λ n. slice_get terms.new n ≡ Some term.now) }
 {
-    if names.len() > MOST_NAMES {
+    let count = terms.len();
+    if count >= MOST_TERMS {
         return Err(NoMemory);
     }
-    names.intern(term)
+    terms.push(term)?;
+    Ok(count as u32)
 }
 
 /// Whether a term begins at a place, be it good or not.
@@ -91,17 +91,17 @@ fn begins_term(line: &[u8], at: usize) -> bool
 /// The number of the term that stands at a place, and the place after it.
 fn read_term(
     alloc: Global,
-    names: &mut Names,
+    terms: &mut Terms,
     line: &[u8],
     at: usize,
 ) -> Result<(u32, usize), LineStop>
     requires inside { at ≤ length line.now }
     requires utf8 { IsUtf8 line.now }
-    ensures grown { HasMoreNames names.old names.new }
-    ensures told { TermTold names.new line.now at result }
+    ensures grown { HasMoreNames terms.old terms.new }
+    ensures told { TermTold terms.new line.now at result }
 {
-    match read_object(alloc, line, at) {
-        Ok((term, end)) => Ok((number(names, term)?, end)),
+    match lex_object(alloc, line, at) {
+        Ok((term, end)) => Ok((number(terms, &term.lent())?, end)),
         Err(LexStop::NoMemory) => Err(LineStop::NoMemory),
         Err(LexStop::Fault(fault)) => Err(LineStop::Fault(ProofFault::Lex(fault))),
     }
@@ -110,14 +110,14 @@ fn read_term(
 /// The numbers of the terms that stand from a place on.
 fn read_terms(
     alloc: Global,
-    names: &mut Names,
+    terms: &mut Terms,
     line: &[u8],
     at: usize,
 ) -> Result<Vec<u32>, LineStop>
     requires inside { at ≤ length line.now }
     requires utf8 { IsUtf8 line.now }
-    ensures grown { HasMoreNames names.old names.new }
-    ensures told { SideTold names.new (TermsSay line.now at) result }
+    ensures grown { HasMoreNames terms.old terms.new }
+    ensures told { SideTold terms.new (TermsSay line.now at) result }
 {
     let mut numbers = Vec::new(alloc);
     let mut next = skip_space(line, at);
@@ -125,7 +125,7 @@ fn read_terms(
         if !begins_term(line, next) {
             return Err(LineStop::Fault(ProofFault::BadLine));
         }
-        let (number, end) = read_term(alloc, names, line, next)?;
+        let (number, end) = read_term(alloc, terms, line, next)?;
         numbers.push(number)?;
         next = skip_space(line, end);
     }
@@ -135,19 +135,19 @@ fn read_terms(
 /// A side of a step in version 1: this word, and terms.
 pub(crate) fn spelled_side(
     alloc: Global,
-    names: &mut Names,
+    terms: &mut Terms,
     word: &[u8],
     line: &[u8],
 ) -> Result<Vec<u32>, LineStop>
     requires { IsUtf8 line.now }
-    ensures grown { HasMoreNames names.old names.new }
-    ensures told { (terms : List Term) → SideTold names.new (SideSays word.now line.now terms One) result }
+    ensures grown { HasMoreNames terms.old terms.new }
+    ensures told { (listed : List Term) → SideTold terms.new (SideSays word.now line.now listed One) result }
 {
     let (begin, end) = first_word(line);
     if &line[begin..end] != word {
         return Err(LineStop::Fault(ProofFault::BadLine));
     }
-    let numbers = read_terms(alloc, names, line, end)?;
+    let numbers = read_terms(alloc, terms, line, end)?;
     if numbers.is_empty() {
         return Err(LineStop::Fault(ProofFault::BadLine));
     }
@@ -155,16 +155,16 @@ pub(crate) fn spelled_side(
 }
 
 /// The number of the one term of a line.
-pub(crate) fn one_term(alloc: Global, names: &mut Names, line: &[u8]) -> Result<u32, LineStop>
+pub(crate) fn one_term(alloc: Global, terms: &mut Terms, line: &[u8]) -> Result<u32, LineStop>
     requires { IsUtf8 line.now }
-    ensures grown { HasMoreNames names.old names.new }
-    ensures told { OneTermTold names.new (OneTermSays line.now) result }
+    ensures grown { HasMoreNames terms.old terms.new }
+    ensures told { OneTermTold terms.new (OneTermSays line.now) result }
 {
     let at = skip_space(line, 0);
     if !begins_term(line, at) {
         return Err(LineStop::Fault(ProofFault::BadLine));
     }
-    let (number, end) = read_term(alloc, names, line, at)?;
+    let (number, end) = read_term(alloc, terms, line, at)?;
     if skip_space(line, end) != line.len() {
         return Err(LineStop::Fault(ProofFault::BadLine));
     }

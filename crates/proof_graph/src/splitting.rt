@@ -1,6 +1,6 @@
 //! The lines of a text, one by one.
 
-ghost use Rattle.std.specs.Prelude.{◌≤◌, IfNone, IfSome, length};
+ghost use Rattle.std.specs.Prelude.{IfNone, IfSome, IsUtf8};
 ghost use Rattle.nt_lex.specs.Scans.{IsRunAt};
 ghost use Rattle.nt_reader.specs.Lines.{is_line_byte};
 ghost use Rattle.proof_graph.specs.Splitting.{HasNoEnd, IsSplit};
@@ -31,6 +31,7 @@ fn line_run(text: &[u8]) -> usize
 pub(crate) fn split_line(text: &[u8]) -> Option<Split<'_>>
     ensures none { IfNone result (HasNoEnd text.now) }
     ensures some { IfSome result (λ split. IsSplit text.now split.line.now split.rest.now split.returned) }
+    ensures utf8 { IfSome result (λ split. IsUtf8 text.now → IsUtf8 split.line.now × IsUtf8 split.rest.now) }
 {
     let end = line_run(text);
     if end == text.len() {

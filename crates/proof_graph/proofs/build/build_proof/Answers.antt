@@ -57,8 +57,8 @@ loop-entry-preserved c =
     let name = get_or_read key_names e.key c.index-key_names-key.result (omega arith) c.index-key_names-key.is [] in
     let B = built_entry names K key_names H in
     let S = map B (take i H) in
-    let T = c.loop-entry.numbers.terms.items in
-    let later = c.step.new.numbers.terms.items in
+    let T = c.loop-entry.numbers.terms in
+    let later = c.step.new.numbers.terms in
     let before = c.loop-entry.invariant in
     let step_is = entry_is names K key_names c.in_ok-ways.ways H c.index-patterns-key.result c.index-key_names-key.result e c.in_ok-ways.ensures pattern name in
     let grown = c.in_ok-made.ensures.terms ∙ ap (λ step. with_terms T (step_terms step)) step_is in
@@ -74,7 +74,7 @@ pub invariant_of-result : goal.invariant_of-result
 invariant_of-result c =
     let i = c.loop-entry.entry-index in
     let B = built_entry c.args.names.now c.args.patterns.now c.args.key_names.now c.args.journal.now in
-    (in_numbers_parts (map B (take i c.args.journal.now)) c.loop-entry.numbers.terms.items c.loop-entry.steps.items c.loop-entry.invariant.terms c.loop-entry.invariant.steps).0
+    (in_numbers_parts (map B (take i c.args.journal.now)) c.loop-entry.numbers.terms c.loop-entry.steps.items c.loop-entry.invariant.terms c.loop-entry.invariant.steps).0
 
 pub returns : goal.returns
 returns c =
@@ -82,6 +82,6 @@ returns c =
     let i = c.loop-entry.entry-index in
     let B = built_entry c.args.names.now c.args.patterns.now c.args.key_names.now H in
     let past = c.loop-entry-test.false in
-    let view = (in_numbers_parts (map B (take i H)) c.loop-entry.numbers.terms.items c.loop-entry.steps.items c.loop-entry.invariant.terms c.loop-entry.invariant.steps).1 in
+    let view = (in_numbers_parts (map B (take i H)) c.loop-entry.numbers.terms c.loop-entry.steps.items c.loop-entry.invariant.terms c.loop-entry.invariant.steps).1 in
     subst (TellsAll c.args.names.now c.args.patterns.now c.args.key_names.now H) (sym (view ∙ ap (map B) (take_all i H past)))
     (told_all c.args.names.now c.len-distinct.ensures.distinct c.args.patterns.now c.args.key_names.now H c.all_valid.ensures.facts c.requires.supported c.requires.named)

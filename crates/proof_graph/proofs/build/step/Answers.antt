@@ -10,9 +10,9 @@ pub returns-clause-step : goal.returns-clause-step
 returns-clause-step c =
     let f = term_at c.args.names.now in
     let e = c.args.entry.now in
-    let first = c.args.numbers.now.terms.items in
-    let terms = c.numbers.new.self.terms.items in
-    let later = c.numbers-2.new.self.terms.items in
+    let first = c.args.numbers.now.terms in
+    let terms = c.numbers.new.self.terms in
+    let later = c.numbers-2.new.self.terms in
     let left_is = c.deref.ensures.value ∙ c.in_ok-listed.ensures in
     let right_is = c.deref-2.ensures.value ∙ c.in_ok-listed-2.ensures in
     let grown = c.in_ok-left.ensures.terms ∙ ap (λ side. with_terms first (map f side)) left_is in

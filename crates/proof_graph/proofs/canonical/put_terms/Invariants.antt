@@ -4,8 +4,8 @@ use Rattle.term_text.specs.Appending.{BeginsWith}
 use Rattle.proof_graph.specs.CanonicalProof.{listed_text}
 use Rattle.proof_graph.proofs.canonical.put_terms.Given as goal
 
-abbrev pub invariant-loop-term : goal.invariant-loop-term
-invariant-loop-term l = record {
-  text : l.buf.items ≡ l.fn.buf.items ++ flat_map listed_text (take l.term-index l.terms);
+abbrev pub invariant-loop-place : goal.invariant-loop-place
+invariant-loop-place l = record {
+  text : l.buf.items ≡ l.fn.buf.items ++ flat_map listed_text (take l.place l.terms);
   kept : BeginsWith l.fn.buf.items l.buf.items;
 }

@@ -9,4 +9,4 @@ returns-then-not-is_utf8-clause-done c = text.no_utf8 (λ u. true≢false (sym (
 
 pub returns-clause-done : goal.returns-clause-done
 returns-clause-done c =
-    text_done c.at_stage.new.names (progress_with c.args.names.now c.args.progress) c.args.line.now c.at_stage.result (c.is_utf8.ensures.0 c.if-not-is_utf8.false) c.at_stage.ensures.done
+    text_done c.at_stage.new.terms (progress_with c.args.terms.now c.args.progress) c.args.line.now c.at_stage.result (c.is_utf8.ensures.0 c.if-not-is_utf8.false) c.at_stage.ensures.done

@@ -9,11 +9,11 @@ use Rattle.proof_graph.proofs.line.at_right.Goals as goal
 pub returns-in_err-right-clause-done : goal.returns-in_err-right-clause-done
 returns-in_err-right-clause-done c =
     let p = err_from_is_err_and c.from_residual.result c.from_residual.ensures.1 in
-    let left = map (term_at c.args.names.now) c.args.left.items in
+    let left = map (term_at c.args.terms.now) c.args.left.items in
     rw (p.1, p.2)
-    (right_stops c.side.new.names (state_with c.args.names.now c.args.known (AtRight c.args.key left)) c.args.key c.args.line.now left c.in_err-right.field-0.0 c.in_err-right.ensures.told)
+    (right_stops c.side.new.terms (state_with c.args.terms.now c.args.known (AtRight c.args.key left)) c.args.key c.args.line.now left c.in_err-right.field-0.0 c.in_err-right.ensures.told)
 
 pub returns-clause-done : goal.returns-clause-done
 returns-clause-done c =
-    right_done c.args.names.now c.side.new.names c.args.known c.args.key c.args.line.now c.args.left c.in_ok-right.right c.new.result c.new.ensures.items c.in_ok-right.ensures.grown c.requires.below c.requires.left
+    right_done c.args.terms.now c.side.new.terms c.args.known c.args.key c.args.line.now c.args.left c.in_ok-right.right c.new.result c.new.ensures.items c.in_ok-right.ensures.grown c.requires.below c.requires.left
     c.in_ok-right.ensures.told

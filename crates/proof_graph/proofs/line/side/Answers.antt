@@ -8,12 +8,12 @@ use Rattle.proof_graph.proofs.line.side.Goals as goal
 
 pub returns-in-One-clause-told : goal.returns-in-One-clause-told
 returns-in-One-clause-told c =
-    let terms = map (term_at c.args.names.now) c.args.known.now.listed.items in
-    subst (λ v. SideTold c.spelled_side.new.names (SideSays c.args.word.now c.args.line.now terms v) c.spelled_side.result) (sym c.in-One.is) (c.spelled_side.ensures.told terms)
+    let terms = map (term_at c.args.terms.now) c.args.known.now.listed.items in
+    subst (λ v. SideTold c.spelled_side.new.terms (SideSays c.args.word.now c.args.line.now terms v) c.spelled_side.result) (sym c.in-One.is) (c.spelled_side.ensures.told terms)
 
 pub returns-in-Two-clause-told : goal.returns-in-Two-clause-told
 returns-in-Two-clause-told c =
-    let names = c.args.names.now in
+    let names = c.args.terms.now in
     let listed = c.args.known.now.listed.items in
     subst (λ v. SideTold names (SideSays c.args.word.now c.args.line.now (map (term_at names) listed) v) c.numbered_side.result) (sym c.in-Two.is)
     (numbers_told names listed c.args.word.now c.args.line.now c.numbered_side.result c.requires.below.listed

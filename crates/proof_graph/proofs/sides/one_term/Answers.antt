@@ -13,7 +13,7 @@ pub returns-in_err-number-clause-told : goal.returns-in_err-number-clause-told
 returns-in_err-number-clause-told c =
     let p = err_from_is_err_and c.from_residual.result c.from_residual.ensures.1 in
     rw (p.1, p.2)
-    (one_term_stops c.read_term.new.names c.args.line.now c.skip_space-at.result c.in_err-number.field-0.0 c.skip_space-at.ensures (sym c.begins_term.ensures ∙ c.if-not-begins_term.false) c.in_err-number.ensures.told)
+    (one_term_stops c.read_term.new.terms c.args.line.now c.skip_space-at.result c.in_err-number.field-0.0 c.skip_space-at.ensures (sym c.begins_term.ensures ∙ c.if-not-begins_term.false) c.in_err-number.ensures.told)
 
 pub returns-then-skip_space-line-clause-told : goal.returns-then-skip_space-line-clause-told
 returns-then-skip_space-line-clause-told c =

@@ -8,10 +8,10 @@ use Rattle.proof_graph.proofs.sides.read_terms.Given as goal
 
 abbrev pub invariant-loop-next : goal.invariant-loop-next
 invariant-loop-next l = record {
-  grown : HasMoreNames l.initial.names l.names;
-  below : AreBelow (length l.names) l.numbers.items;
+  grown : HasMoreNames l.initial.terms l.terms;
+  below : AreBelow (length l.terms) l.numbers.items;
   run : IsRunAt is_blank l.line l.next l.next;
-  on : ReadsOn l.line l.at l.next (map (term_at l.names) l.numbers.items);
+  on : ReadsOn l.line l.at l.next (map (term_at l.terms) l.numbers.items);
 }
 
 abbrev pub decreases-loop-next : goal.decreases-loop-next

@@ -18,7 +18,7 @@ returns-in_err-numbers-clause-told c =
     let word = c.args.word.now in
     let p = err_from_is_err_and c.from_residual.result c.from_residual.ensures.1 in
     rw (p.1, p.2)
-    (λ terms. side_stops c.read_terms.new.names terms word line begin end c.in_err-numbers.field-0.0 c.first_word-begin.ensures (not-false (bytes_eq (slice_range line begin end) word) (sym c.if-ne.ensures)) c.in_err-numbers.ensures.told)
+    (λ terms. side_stops c.read_terms.new.terms terms word line begin end c.in_err-numbers.field-0.0 c.first_word-begin.ensures (not-false (bytes_eq (slice_range line begin end) word) (sym c.if-ne.ensures)) c.in_err-numbers.ensures.told)
 
 pub returns-then-is_empty-clause-told : goal.returns-then-is_empty-clause-told
 returns-then-is_empty-clause-told c =
@@ -26,7 +26,7 @@ returns-then-is_empty-clause-told c =
     let end = c.first_word-begin.result.1 in
     let line = c.args.line.now in
     let word = c.args.word.now in
-    λ terms. no_side_read c.read_terms.new.names terms word line begin end c.in_ok-numbers.numbers.items c.first_word-begin.ensures (not-false (bytes_eq (slice_range line begin end) word) (sym c.if-ne.ensures))
+    λ terms. no_side_read c.read_terms.new.terms terms word line begin end c.in_ok-numbers.numbers.items c.first_word-begin.ensures (not-false (bytes_eq (slice_range line begin end) word) (sym c.if-ne.ensures))
     (c.in_ok-numbers.ensures.told.0) (sym c.in_ok-numbers.numbers.ok.0 ∙ eqb-true (vec_len c.in_ok-numbers.numbers) 0 (sym c.if-is_empty.ensures))
 
 pub returns-clause-told : goal.returns-clause-told
@@ -36,7 +36,7 @@ returns-clause-told c =
     let line = c.args.line.now in
     let word = c.args.word.now in
     λ terms. (
-      side_read c.read_terms.new.names terms word line begin end c.in_ok-numbers.numbers.items c.first_word-begin.ensures (not-false (bytes_eq (slice_range line begin end) word) (sym c.if-ne.ensures))
+      side_read c.read_terms.new.terms terms word line begin end c.in_ok-numbers.numbers.items c.first_word-begin.ensures (not-false (bytes_eq (slice_range line begin end) word) (sym c.if-ne.ensures))
           c.in_ok-numbers.ensures.told.0 (λ none. true≢false (sym (eq-eqb (vec_len c.in_ok-numbers.numbers) 0 (c.in_ok-numbers.numbers.ok.0 ∙ none)) ∙ sym c.if-is_empty.ensures)),
       c.in_ok-numbers.ensures.told.1,
     )

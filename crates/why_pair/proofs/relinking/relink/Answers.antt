@@ -10,7 +10,7 @@ use Rattle.why_pair.proofs.relinking.relink.Goals as goal
 
 pub relinked_step-requires-clause-linked : goal.relinked_step-requires-clause-linked
 relinked_step-requires-clause-linked c =
-    let T = c.proof.inside.terms.items in
+    let T = c.proof.inside.terms in
     let S = c.proof.inside.steps.items in
     let x = c.in-Some.step in
     let e = c.index-entries-at.result in
@@ -30,7 +30,7 @@ relinked_step-requires-clause-linked c =
 pub loop-step-preserved : goal.loop-step-preserved
 loop-step-preserved c =
     let f = relinked_numbers c.args.ways.now c.args.kept.now in
-    let T = c.proof.inside.terms.items in
+    let T = c.proof.inside.terms in
     let S = c.proof.inside.steps.items in
     let x = c.in-Some.step in
     let e = c.index-entries-at.result in
@@ -56,7 +56,7 @@ loop-step-preserved c =
 
 pub invariant_of-result : goal.invariant_of-result
 invariant_of-result c =
-    let T = c.proof.inside.terms.items in
+    let T = c.proof.inside.terms in
     let S = c.proof.inside.steps.items in
     let Y = c.loop-step.yielded in
     let E = c.args.entries.now in
@@ -70,7 +70,7 @@ invariant_of-result c =
 
 pub returns : goal.returns
 returns c =
-    let T = c.proof.inside.terms.items in
+    let T = c.proof.inside.terms in
     let S = c.proof.inside.steps.items in
     let Y = c.loop-step.yielded in
     let E = c.args.entries.now in

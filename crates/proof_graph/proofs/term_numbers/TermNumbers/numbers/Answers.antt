@@ -11,11 +11,11 @@ loop-name-preserved c =
     let i = c.loop-name.name-index in
     let l = c.loop-name-test.true in
     let before = c.loop-name.invariant in
-    let first = c.args.self.now.terms.items in
+    let first = c.args.self.now.terms in
     let t = term_at names (get_or side i 0) in
     record {
       terms = c.in_ok-number.ensures.terms ∙ ap (λ ts. with_term ts t) before.terms ∙ sym (side_terms names first side i l);
       numbers = c.in_ok-push.ensures.items ∙ ap₂ (λ ns n. ns ++ n ∷ []) before.numbers c.in_ok-number.ensures.number
-          ∙ sym (side_numbers names first c.loop-name.self.terms.items c.number.new.self.terms.items side i l before.terms c.in_ok-number.ensures.terms);
+          ∙ sym (side_numbers names first c.loop-name.self.terms c.number.new.self.terms side i l before.terms c.in_ok-number.ensures.terms);
       places = c.in_ok-number.ensures.places;
     }

@@ -6,7 +6,7 @@ use Rattle.proof_graph.proofs.term_numbers.TermNumbers.numbers.Given as goal
 
 abbrev pub invariant-loop-name : goal.invariant-loop-name
 invariant-loop-name l = record {
-  terms : l.self.terms.items ≡ with_terms l.initial.self.terms.items (map (term_at l.names) (take l.name-index l.side));
-  numbers : l.numbers.items ≡ map (place_of l.self.terms.items) (map (term_at l.names) (take l.name-index l.side));
-  places : NotesPlaces l.names l.self.terms.items l.self.places.items;
+  terms : l.self.terms ≡ with_terms l.initial.self.terms (map (term_at l.names) (take l.name-index l.side));
+  numbers : l.numbers.items ≡ map (place_of l.self.terms) (map (term_at l.names) (take l.name-index l.side));
+  places : NotesPlaces l.names l.self.terms l.self.places.items;
 }

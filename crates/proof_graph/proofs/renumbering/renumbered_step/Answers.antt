@@ -4,7 +4,7 @@ use Rattle.term_table.specs.Numbering.{place_of, with_term, with_terms}
 use Rattle.proof_graph.specs.Steps.{StepNumbers, term_at}
 use Rattle.proof_graph.specs.Progress.{AreBelow}
 use Rattle.proof_graph.proofs.InNumbers.{left_stays}
-use Rattle.proof_graph.proofs.read.renumbered_step.Goals as goal
+use Rattle.proof_graph.proofs.renumbering.renumbered_step.Goals as goal
 
 pub numbers-requires-clause-named : goal.numbers-requires-clause-named
 numbers-requires-clause-named c = subst (AreBelow (length c.args.names.now)) (sym (c.deref.ensures.value ∙ ap (λ (s : StepNumbers). s.left) c.step.view_is)) c.requires.below.0
@@ -15,8 +15,8 @@ numbers-requires-2-clause-named c = subst (AreBelow (length c.args.names.now)) (
 pub returns-clause-terms : goal.returns-clause-terms
 returns-clause-terms c =
     let f = term_at c.args.names.now in
-    let first = c.args.numbers.now.terms.items in
-    let terms = c.numbers.new.self.terms.items in
+    let first = c.args.numbers.now.terms in
+    let terms = c.numbers.new.self.terms in
     let step = c.args.step in
     let left_is = c.deref.ensures.value ∙ ap (λ (s : StepNumbers). s.left) c.step.view_is in
     let right_is = c.deref-2.ensures.value ∙ ap (λ (s : StepNumbers). s.right) c.step.view_is in
@@ -27,9 +27,9 @@ returns-clause-terms c =
 pub returns-clause-step : goal.returns-clause-step
 returns-clause-step c =
     let f = term_at c.args.names.now in
-    let first = c.args.numbers.now.terms.items in
-    let terms = c.numbers.new.self.terms.items in
-    let later = c.numbers-2.new.self.terms.items in
+    let first = c.args.numbers.now.terms in
+    let terms = c.numbers.new.self.terms in
+    let later = c.numbers-2.new.self.terms in
     let step = c.args.step in
     let left_is = c.deref.ensures.value ∙ ap (λ (s : StepNumbers). s.left) c.step.view_is in
     let right_is = c.deref-2.ensures.value ∙ ap (λ (s : StepNumbers). s.right) c.step.view_is in
