@@ -1,5 +1,5 @@
 -- Jobs of an earlier turn are good in a later one.
-use Rattle.std.proofs.Common.{List, ◌++◌, ℕ, Option, Some, get_or, length, ◌≡◌, ◌≤◌, sym, subst, ◌∙◌, arith, length-append}
+use Rattle.std.proofs.Common.{List, ◌++◌, ℕ, Option, Some, get_or, ◌≡◌, ap, sym, subst, ◌∙◌, append_assoc}
 use Rattle.std.specs.List.{All}
 use Rattle.std.proofs.Math.ListN.{set}
 use Rattle.std.proofs.lemmas.List.Elements.{All-set}
@@ -12,7 +12,7 @@ use Rattle.steal_pool.specs.declared.workspace.Job.{Job}
 use Rattle.steal_pool.specs.declared.workspace.Progress.{Progress}
 use Rattle.steal_pool.specs.declared.workspace.Progress.TheVariants as progress
 use Rattle.steal_pool.specs.declared.workspace.Workspace.{Workspace}
-use Rattle.steal_pool.specs.Bases.{Base, pair_count, widest_of, board_of}
+use Rattle.steal_pool.specs.Bases.{Base, IsSince, pair_count, widest_of, board_of}
 use Rattle.steal_pool.specs.Workspaces.{Thief, IsWorkspace}
 use Rattle.steal_pool.specs.Batches.{IsCarried, IsJob}
 
@@ -20,13 +20,13 @@ pub same_base : (B B' : Base) → Some B ≡ Some B' → B ≡ B'
 same_base B B' e = cc
 
 -- what was there at the take is there later
-since_later : (seen more : List Entry) (n : ℕ) → n ≤ length seen → n ≤ length (seen ++ more)
-since_later seen more n h = omega (arith, length-append seen more)
+since_later : (seen more since : List Entry) (count : ℕ) → IsSince seen since count → IsSince (seen ++ more) since count
+since_later seen more since count h = ((h.0.0 ++ more, ap (λ es. es ++ more) h.0.1 ∙ append_assoc since h.0.0 more), h.1)
 
 carried_later : (T : Task) (seen more : List Entry) (j : Job) (w : Progress) → IsCarried T seen j w → IsCarried T (seen ++ more) j w
 carried_later T seen more j progress.Free h = tt
-carried_later T seen more j (progress.Taken t) h = (h.0, since_later seen more j.since h.1)
-carried_later T seen more j (progress.Searched t found) h = (h.0, since_later seen more j.since h.1, h.2, h.3, h.4)
+carried_later T seen more j (progress.Taken t) h = (h.0, since_later seen more j.watcher.since j.since h.1)
+carried_later T seen more j (progress.Searched t found) h = (h.0, since_later seen more j.watcher.since j.since h.1, h.2, h.3, h.4)
 
 jobs_later : (T : Task) (seen more : List Entry) (jobs : List Job) → All (IsJob T seen) jobs → All (IsJob T (seen ++ more)) jobs
 jobs_later T seen more jobs h = λ k d l. carried_later T seen more (get_or jobs k d) (get_or jobs k d).progress (h k d l)

@@ -1,5 +1,6 @@
--- What never changes of a shared chase.
-use Rattle.std.specs.Prelude.{ℕ, length}
+-- What never changes of a shared chase, and what was there before.
+use Rattle.std.specs.Prelude.{List, ℕ, length, ◌≡◌, ◌++◌}
+use Rattle.chase_laws.specs.declared.entry.Entry.{Entry}
 use Rattle.atomic_table.specs.Seated.{TableId}
 use Rattle.chase_laws.specs.Core.{name_count}
 use Rattle.chase_core.specs.Setup.{Preparation}
@@ -28,3 +29,7 @@ widest_of B = B.0.widest
 -- the board
 abbrev pub board_of : Base → SeenBoard
 board_of B = B.1
+
+-- the entries that were there when a watcher last stood even are this many, and those that were seen begin with them
+abbrev pub IsSince : List Entry → List Entry → ℕ → Type 0
+IsSince seen since count = ((more : List Entry) × (seen ≡ since ++ more)) × (length since ≡ count)

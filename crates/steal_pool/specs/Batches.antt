@@ -1,5 +1,5 @@
 -- What a worker has in hand between its turns, and what becomes of it.
-use Rattle.std.specs.Prelude.{List, ℕ, Option, Some, None, length, ◌≡◌, ◌≤◌}
+use Rattle.std.specs.Prelude.{List, ℕ, Option, Some, None, ◌≡◌}
 use Rattle.std.specs.List.{All}
 use Rattle.chase_laws.specs.declared.entry.Entry.{Entry}
 use Rattle.chase_laws.specs.Core.{Task, PairAt, ListsNear}
@@ -16,7 +16,7 @@ use Rattle.steal_pool.specs.declared.workspace.Progress.TheVariants as progress
 use Rattle.steal_pool.specs.declared.crew_member.CrewMember.{CrewMember}
 use Rattle.steal_pool.specs.declared.shared.Shared.{Shared}
 use Rattle.steal_pool.specs.Workspaces.{Thief}
-use Rattle.steal_pool.specs.Bases.{Base, pair_count, widest_of, board_of}
+use Rattle.steal_pool.specs.Bases.{Base, IsSince, pair_count, widest_of, board_of}
 use Rattle.steal_pool.specs.CrewMembers.{IsCrewMember}
 
 -- the pair that a job has, if any
@@ -31,13 +31,13 @@ IsSearched progress.Free = ⊥
 IsSearched (progress.Taken t) = ⊥
 IsSearched (progress.Searched t found) = Unit {0}
 
--- A pair that was taken has these ends. What is said of its search is what one comes to by a view of what is near to them,
--- with the labels that the job's watcher has read. There are as many entries by now as there were at the take.
+-- A pair that was taken has these ends, and the job's watcher stood even at the take. What is said of its search is what one
+-- comes to by a view of what is near to them, with the labels that the watcher has read.
 abbrev pub IsCarried : Task → List Entry → Job → Progress → Type 0
 IsCarried T seen job progress.Free = Unit {0}
-IsCarried T seen job (progress.Taken t) = PairAt T t.pair t.a t.b × (job.since ≤ length seen)
+IsCarried T seen job (progress.Taken t) = PairAt T t.pair t.a t.b × IsSince seen job.watcher.since job.since
 IsCarried T seen job (progress.Searched t found) =
-    PairAt T t.pair t.a t.b × (job.since ≤ length seen)
+    PairAt T t.pair t.a t.b × IsSince seen job.watcher.since job.since
     × ListsNear T t.a t.b job.view.pairs × (job.watcher.read ≡ job.view.pairs) × IsFoundBy T t job.view.pairs found
 
 abbrev pub IsJob : Task → List Entry → Job → Type 0

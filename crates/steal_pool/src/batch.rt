@@ -69,7 +69,15 @@ fn settle_job(
 {
     match job.progress {
         Progress::Searched(ticket, outcome) => {
-            let settled = shared.settle(board, &mut job.watcher, ticket, &job.view, outcome, woken);
+            let settled = shared.settle(
+                board,
+                &mut job.watcher,
+                job.since,
+                ticket,
+                &job.view,
+                outcome,
+                woken,
+            );
             keep_woken(pending, woken.list(), count);
             job.progress = Progress::Free;
             is_wasted(settled)
@@ -112,6 +120,7 @@ fn settle_all(
 
 /// Takes a pair for a job that has none. It answers whether it has one now.
 fn take_job(shared: &mut Shared<'_>, board: &Board, job: &mut Job, hint: Option<u32>) -> bool
+    requires board { board_over shared.old.chase.setup shared.old.scribe.board ≡ board.now }
     requires place { IsPlace shared.old.chase.setup.widest board.now job.old }
     requires free { pair_in job.old.progress ≡ None }
     requires hint { IfSome hint (λ p. p < length shared.old.chase.setup.task.pairs) }
@@ -124,9 +133,7 @@ fn take_job(shared: &mut Shared<'_>, board: &Board, job: &mut Job, hint: Option<
     ensures place { IsPlace shared.old.chase.setup.widest board.now job.new }
     ensures job { IsJob shared.old.chase.setup.task shared.old.chase.book.journal job.new }
 {
-    // The board is only named in the contract.
-    let _ = board;
-    match shared.take(hint) {
+    match shared.take(board, hint, &mut job.watcher) {
         Some(ticket) => {
             job.since = shared.chase.book().journal().len();
             job.progress = Progress::Taken(ticket);
@@ -142,6 +149,7 @@ fn take_job(shared: &mut Shared<'_>, board: &Board, job: &mut Job, hint: Option<
 /// Takes a pair for a job that has none. One that has a pair keeps it, so that none is ever lost. It answers whether the
 /// job has one now.
 fn fill_job(shared: &mut Shared<'_>, board: &Board, job: &mut Job, hint: Option<u32>) -> bool
+    requires board { board_over shared.old.chase.setup shared.old.scribe.board ≡ board.now }
     requires place { IsPlace shared.old.chase.setup.widest board.now job.old }
     requires job { IsJob shared.old.chase.setup.task shared.old.chase.book.journal job.old }
     requires hint { IfSome hint (λ p. p < length shared.old.chase.setup.task.pairs) }
@@ -207,6 +215,7 @@ fn take_all(
     most: usize,
     others: bool,
 ) -> Next
+    requires board { board_over shared.old.chase.setup shared.old.scribe.board ≡ board.now }
     requires jobs { All (IsJob shared.old.chase.setup.task shared.old.chase.book.journal) workspace.old.jobs.items }
     requires workspace { IsWorkspace (length shared.old.chase.setup.task.pairs) shared.old.chase.setup.widest board.now thieves.now workspace.old }
     ensures ends { result ≡ End → shared.new.chase.table.ready ≡ [] }
@@ -273,6 +282,7 @@ fn take_next(
     others: bool,
     lone: bool,
 ) -> Next
+    requires board { board_over shared.old.chase.setup shared.old.scribe.board ≡ board.now }
     requires jobs { All (IsJob shared.old.chase.setup.task shared.old.chase.book.journal) workspace.old.jobs.items }
     requires workspace { IsWorkspace (length shared.old.chase.setup.task.pairs) shared.old.chase.setup.widest board.now thieves.now workspace.old }
     ensures ends { result ≡ End → shared.new.chase.table.ready ≡ [] }

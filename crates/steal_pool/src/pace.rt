@@ -1,6 +1,7 @@
 //! How a worker's turns go.
 
-/// After so many steps of a chain, or so many crowded turns, one after another, a worker goes on alone.
+/// After so many steps of a chain, or so many pairs that were settled in crowded turns, one after another, a worker goes on
+/// alone.
 const ALONE: u32 = 256;
 
 /// What a turn settled.
@@ -48,17 +49,12 @@ impl Settlement {
 pub struct Pace {
     /// How many steps of a chain the last turns were.
     steps: u32,
-    /// How many of the last turns, one after another, were crowded.
-    crowded: u32,
+    /// How many pairs were settled in the last turns, where these were crowded one after another.
+    crowded: usize,
     /// How many entries there were after the last turn.
     seen: usize,
     /// Whether the last turn woke pairs.
     pub woke: bool,
-}
-
-/// One more than that, where it goes on, and else 0.
-fn counted(count: u32, goes_on: bool) -> u32 {
-    if goes_on { count.saturating_add(1) } else { 0 }
 }
 
 impl Pace {
@@ -76,8 +72,16 @@ impl Pace {
     pub fn after(&self, turn: Settlement) -> Pace {
         let is_step = self.woke && turn.entered() > 0 && turn.found == self.seen;
         Pace {
-            steps: counted(self.steps, is_step),
-            crowded: counted(self.crowded, turn.is_crowded()),
+            steps: if is_step {
+                self.steps.saturating_add(1)
+            } else {
+                0
+            },
+            crowded: if turn.is_crowded() {
+                self.crowded.saturating_add(turn.settled)
+            } else {
+                0
+            },
             seen: turn.left,
             woke: turn.woke,
         }
@@ -85,6 +89,6 @@ impl Pace {
 
     /// Whether the worker is to go on alone.
     pub fn is_alone(&self) -> bool {
-        self.steps >= ALONE || self.crowded >= ALONE
+        self.steps >= ALONE || self.crowded >= ALONE as usize
     }
 }

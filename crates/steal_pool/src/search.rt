@@ -19,6 +19,7 @@ fn look(setup: &Setup, board: &Board, ticket: &Ticket, watcher: &mut Watcher, vi
     requires room { setup.now.widest ≤ view.old.room }
     ensures near { ListsNear setup.now.task ticket.now.a ticket.now.b view.new.pairs }
     ensures read { watcher.new.read ≡ view.new.pairs }
+    ensures since { watcher.new.since ≡ watcher.old.since }
     ensures board { watcher.new.board ≡ watcher.old.board }
     ensures room { view.new.room ≡ view.old.room }
 {

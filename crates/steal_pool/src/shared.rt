@@ -1,18 +1,18 @@
 //! The chase with the scribe of its board, as a value with a journal.
 
-ghost use Rattle.std.specs.Prelude.{◌≡◌, ◌++◌, ◌<◌, ◌^◌, ℕ, List, All, IfSome, MatchOption, length};
+ghost use Rattle.std.specs.Prelude.{◌≡◌, ◌++◌, ◌<◌, ◌^◌, ℕ, List, All, IfSome, IsTrue, MatchOption, length};
 ghost use Rattle.chase_laws.specs.declared.entry.Entry.{Entry};
-ghost use Rattle.chase_laws.specs.Core.{Happens, IsSound, ListsNear, PairAt, State};
+ghost use Rattle.chase_laws.specs.Core.{Happens, IsPresent, IsSound, ListsNear, PairAt, State};
 ghost use Rattle.chase_laws.specs.Core.Event.{Enter};
 ghost use Rattle.chase_core.specs.Running.{IsRunning, state_in};
-ghost use Rattle.chase_core.specs.Settling.{IsFoundBy, Settles};
+ghost use Rattle.chase_core.specs.Settling.{IsFoundBy, IsRightOutcome, Notes, Settles};
 ghost use Rattle.chase_core.specs.Taking.{TakesFirst, TakesHint, pair_of};
-ghost use Rattle.steal_pool.specs.Bases.{base_with, board_over};
+ghost use Rattle.steal_pool.specs.Bases.{IsSince, base_with, board_over};
 
 use chase_core::held_law::law_held;
 use chase_core::{Chase, Outcome, Settled, Setup, Ticket, Woken};
 use chase_laws::Entry;
-use label_board::{Board, Scribe, Watcher, law_met};
+use label_board::{Board, Scribe, Watcher, law_fresh, law_met};
 use paired_search::View;
 use turn_lock::Journaled;
 
@@ -54,6 +54,31 @@ fn post_last(board: &Board, scribe: &mut Scribe, chase: &Chase<'_>)
     board.post(scribe, chase.book());
 }
 
+/// Settles a pair by a view. One that is told to be fresh has the present labels, and is not compared with them.
+fn settle_by(
+    chase: &mut Chase<'_>,
+    ticket: Ticket,
+    view: &View,
+    outcome: Outcome,
+    woken: &mut Woken,
+    is_fresh: bool,
+) -> Settled
+    requires ends { PairAt chase.old.setup.task ticket.pair ticket.a ticket.b }
+    requires near { ListsNear chase.old.setup.task ticket.a ticket.b view.now.pairs }
+    requires outcome { IsRightOutcome chase.old.setup.task (state_in chase.old) ticket view.now.pairs outcome }
+    requires fresh { IsTrue is_fresh → IsPresent (state_in chase.old) view.now.pairs }
+    ensures settles { Settles chase.old ticket view.now.pairs outcome result chase.new }
+    ensures woken { Notes chase.old ticket.pair result chase.new woken.old.room woken.new.list }
+    ensures setup { chase.new.setup ≡ chase.old.setup }
+    ensures grows { (more : List Entry) × (chase.new.book.journal ≡ chase.old.book.journal ++ more) }
+{
+    if is_fresh {
+        chase.settle_fresh(ticket, view, outcome, woken)
+    } else {
+        chase.settle(ticket, view, outcome, woken)
+    }
+}
+
 impl<'a> Shared<'a> {
     /// Says for proofs what holds of every shared chase. It does nothing.
     pub(crate) fn holds(&self)
@@ -65,24 +90,35 @@ impl<'a> Shared<'a> {
         let _ = self.chase.setup().pairs();
     }
 
-    /// Hands a pair out, as `Chase::take_unseen` does.
-    pub(crate) fn take(&mut self, hint: Option<u32>) -> Option<Ticket>
+    /// Hands a pair out, as `Chase::take_unseen` does. The watcher stands even with the scribe.
+    pub(crate) fn take(
+        &mut self,
+        board: &Board,
+        hint: Option<u32>,
+        watcher: &mut Watcher,
+    ) -> Option<Ticket>
+        requires board { board_over self.old.chase.setup self.old.scribe.board ≡ board.now }
+        requires watcher { watcher.old.board ≡ board.now.id }
         requires hint { IfSome hint (λ p. p < length self.old.chase.setup.task.pairs) }
         ensures takes { MatchOption hint (TakesFirst self.old.chase self.new.chase (pair_of result)) (λ p. TakesHint self.old.chase self.new.chase p (pair_of result)) }
         ensures ends { IfSome result (λ t. PairAt self.old.chase.setup.task t.pair t.a t.b) }
+        ensures watcher { (watcher.new.board ≡ watcher.old.board) × (watcher.new.since ≡ self.old.chase.book.journal) }
         ensures setup { self.new.chase.setup ≡ self.old.chase.setup }
         ensures book { self.new.chase.book ≡ self.old.chase.book }
         ensures scribe { self.new.scribe ≡ self.old.scribe }
     {
+        board.renew(&mut self.scribe, watcher);
         self.chase.take_unseen(hint)
     }
 
-    /// Settles a pair that was taken, by what a search with a view came to that the watcher filled. The watcher meets the
-    /// scribe first, so that what is the same by the view is joined by the journal. An entry is posted.
+    /// Settles a pair that was taken, by what a search with a view came to that the watcher filled since there were so many
+    /// entries. The watcher meets the scribe first, so that what is the same by the view is joined by the journal; and where
+    /// there are no more entries, the view has the present labels, and nothing is compared. An entry is posted.
     pub(crate) fn settle(
         &mut self,
         board: &Board,
         watcher: &mut Watcher,
+        since: usize,
         ticket: Ticket,
         view: &View,
         outcome: Outcome,
@@ -90,6 +126,7 @@ impl<'a> Shared<'a> {
     ) -> Settled
         requires board { board_over self.old.chase.setup self.old.scribe.board ≡ board.now }
         requires watcher { (watcher.old.board ≡ board.now.id) × (watcher.old.read ≡ view.now.pairs) }
+        requires since { IsSince self.old.chase.book.journal watcher.old.since since }
         requires ends { PairAt self.old.chase.setup.task ticket.pair ticket.a ticket.b }
         requires near { ListsNear self.old.chase.setup.task ticket.a ticket.b view.now.pairs }
         requires found { IsFoundBy self.old.chase.setup.task ticket view.now.pairs outcome }
@@ -101,10 +138,12 @@ impl<'a> Shared<'a> {
         ensures woken { All (λ p. p < length self.old.chase.setup.task.pairs) woken.new.list }
     {
         law_met();
+        law_fresh();
         law_held();
         self.holds();
         board.meet(watcher, &mut self.scribe);
-        let settled = self.chase.settle(ticket, view, outcome, woken);
+        let is_fresh = self.chase.book().journal().len() == since;
+        let settled = settle_by(&mut self.chase, ticket, view, outcome, woken, is_fresh);
         if let Settled::Entered(_) = settled {
             post_last(board, &mut self.scribe, &self.chase);
         }

@@ -172,13 +172,16 @@ impl<'a> Work for Shared<'a> {
                 Next::GoAlone => return,
                 Next::LookAgain => look_again(rt, lock, board, thieves, signs, member),
                 Next::Search => {
+                    let posted = board.posted_count();
                     for k in 0..member.workspace.used.min(member.workspace.jobs.len()) {
                         if let Progress::Taken(ticket) = member.workspace.jobs[k].progress {
                             gate.pass(member.workspace.number, ticket.pair);
                             search_at(lock, board, thieves, setup, member, k);
                         }
                     }
-                    again_all(lock, board, thieves, setup, member);
+                    if board.posted_count() != posted {
+                        again_all(lock, board, thieves, setup, member);
+                    }
                 }
             }
         }
