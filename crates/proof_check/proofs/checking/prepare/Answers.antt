@@ -12,14 +12,16 @@ pub intern-requires : goal.intern-requires
 intern-requires c =
     let e = ap length c.in_ok-numbered.ensures in
     let n = (length-with_terms [] c.args.terms.now).1 in
-    let t = c.if-terms-ge-MOST_TERMS.false in
+    let t = c.if-len-ge-MOST_TERMS.false in
+    let l = c.len.ensures in
     omega arith
 
 pub compile-requires : goal.compile-requires
 compile-requires c =
     let e = ap length c.in_ok-numbered.ensures in
     let n = (length-with_terms [] c.args.terms.now).1 in
-    let t = c.if-terms-ge-MOST_TERMS.false in
+    let t = c.if-len-ge-MOST_TERMS.false in
+    let l = c.len.ensures in
     let o = ap length c.in_ok-kind.ensures.ok in
     let p = (length-with_term c.in_ok-numbered.numbered c.in_ok-type_term.field-0).1 in
     let k = c.keys-keys.ensures.few_terms in
