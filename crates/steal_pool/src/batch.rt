@@ -312,6 +312,16 @@ fn take_next(
     )
 }
 
+/// How many names are in the class that the last entry made.
+fn last_class(shared: &Shared<'_>) -> usize {
+    let names = shared.chase.setup().graph().names();
+    let book = shared.chase.book();
+    match book.journal().last() {
+        Some(entry) if entry.a < names => book.size(entry.a) as usize,
+        _ => 0,
+    }
+}
+
 /// Settles what was searched, and takes the next batch.
 pub fn settle_and_take(
     shared: &mut Shared<'_>,
@@ -353,6 +363,7 @@ pub fn settle_and_take(
         wasted,
         woke,
         wanted,
+        class: last_class(shared),
     };
     note_turn(workspace, turn);
     let next = take_next(shared, workspace, board, thieves, others, lone);

@@ -1,8 +1,13 @@
 //! How a worker's turns go.
 
-/// After so many steps of a chain, or so many pairs that were settled in crowded turns, one after another, a worker goes on
-/// alone.
+/// After so many steps of a chain, or so many crowded turns, one after another, a worker goes on alone.
 const ALONE: u32 = 256;
+
+/// A post writes a label for each name of the class that its entry made. Where that came to more than so many labels an entry,
+/// and more than this many, a worker goes on alone, which posts nothing.
+const LABELS: usize = 64;
+
+const LEAST_LABELS: usize = 4096;
 
 /// What a turn settled.
 #[derive(Clone, Copy)]
@@ -19,6 +24,8 @@ pub struct Settlement {
     pub woke: bool,
     /// Whether another thread waited for the turn.
     pub wanted: bool,
+    /// How many names are in the class that the last entry of all made.
+    pub class: usize,
 }
 
 impl Settlement {
@@ -49,12 +56,21 @@ impl Settlement {
 pub struct Pace {
     /// How many steps of a chain the last turns were.
     steps: u32,
-    /// How many pairs were settled in the last turns, where these were crowded one after another.
-    crowded: usize,
+    /// How many of the last turns, one after another, were crowded.
+    crowded: u32,
+    /// How many entries all its turns made.
+    entered: usize,
+    /// About how many labels the posts of these entries wrote.
+    written: usize,
     /// How many entries there were after the last turn.
     seen: usize,
     /// Whether the last turn woke pairs.
     pub woke: bool,
+}
+
+/// One more than that, where it goes on, and else 0.
+fn counted(count: u32, goes_on: bool) -> u32 {
+    if goes_on { count.saturating_add(1) } else { 0 }
 }
 
 impl Pace {
@@ -63,6 +79,8 @@ impl Pace {
         Pace {
             steps: 0,
             crowded: 0,
+            entered: 0,
+            written: 0,
             seen: 0,
             woke: false,
         }
@@ -72,23 +90,24 @@ impl Pace {
     pub fn after(&self, turn: Settlement) -> Pace {
         let is_step = self.woke && turn.entered() > 0 && turn.found == self.seen;
         Pace {
-            steps: if is_step {
-                self.steps.saturating_add(1)
-            } else {
-                0
-            },
-            crowded: if turn.is_crowded() {
-                self.crowded.saturating_add(turn.settled)
-            } else {
-                0
-            },
+            steps: counted(self.steps, is_step),
+            crowded: counted(self.crowded, turn.is_crowded()),
+            entered: self.entered.saturating_add(turn.entered()),
+            written: self
+                .written
+                .saturating_add(turn.entered().saturating_mul(turn.class)),
             seen: turn.left,
             woke: turn.woke,
         }
     }
 
+    /// Whether posts write many labels an entry.
+    fn writes_much(&self) -> bool {
+        self.written > self.entered.saturating_mul(LABELS).max(LEAST_LABELS)
+    }
+
     /// Whether the worker is to go on alone.
     pub fn is_alone(&self) -> bool {
-        self.steps >= ALONE || self.crowded >= ALONE as usize
+        self.steps >= ALONE || self.crowded >= ALONE || self.writes_much()
     }
 }
