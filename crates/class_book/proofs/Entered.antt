@@ -1,11 +1,11 @@
 -- What an entry does to the classes.
-use Rattle.std.proofs.Common.{List, [], ◌∷◌, ◌++◌, ℕ, true, false, cond, length, slice_index, ◌≡◌, ◌<◌, ◌⊎◌, inl, inr, ◌==◌, ◌↔◌, if◌then◌else◌, sym, ◌∙◌, ap, subst, arith, eq-eqb, ne_eqb, true≢false, refl}
+use Rattle.std.proofs.Common.{All, List, [], ◌∷◌, ◌++◌, ℕ, true, false, cond, length, slice_index, ◌≡◌, ◌<◌, ◌⊎◌, inl, inr, ◌==◌, ◌↔◌, if◌then◌else◌, sym, ◌∙◌, ap, subst, arith, eq-eqb, ne_eqb, true≢false, refl}
 use Rattle.std.proofs.lemmas.Bool.{cases_Bool, eqb-true}
-use Rattle.std.proofs.lemmas.List.Elements.{All-from_get_or, All-get_or}
+use Rattle.std.proofs.lemmas.List.Elements.{All-from_get_or, All-get_or, All-push}
 use Rattle.chase_laws.specs.declared.entry.Entry.{Entry}
 use Rattle.chase_laws.specs.Joined.{joined, links, Joined}
 use Rattle.class_book.proofs.Joins.{Law, none_join, joins_more, joins_parts, joins_ends}
-use Rattle.class_book.specs.Classes.{IsLabelled, relabelled}
+use Rattle.class_book.specs.Classes.{EndsAreNodes, IsLabelled, relabelled}
 use Rattle.std.proofs.lemmas.List.{length-map, get_or-map}
 use Rattle.class_book.proofs.Merging.{moved}
 
@@ -117,3 +117,9 @@ entered_by law labels H e stay go book a_in b_in (inl h) =
 entered_by law labels H e stay go book a_in b_in (inr h) =
     entered labels (relabelled labels go stay) H (H ++ e ∷ []) e.b e.a law (joins_more law H e) (law.symmetric (links (H ++ e ∷ [])) e.a e.b (joins_ends law H e)) (joins_back law H e) book b_in a_in
     (subst (λ x. IsRelabelled labels (relabelled labels go stay) x (slice_index labels e.b)) h.1 (subst (IsRelabelled labels (relabelled labels go stay) go) h.0 (is_relabelled labels go stay)))
+
+-- an identification of two nodes more, under as many labels
+pub ends_more : (old new : List ℕ) (H : List Entry) (e : Entry) → length new ≡ length old → EndsAreNodes old H → e.a < length old → e.b < length old → EndsAreNodes new (H ++ e ∷ [])
+ends_more old new H e count ends a_in b_in =
+    subst (λ (n : ℕ). All (λ (x : Entry). (x.a < n) × (x.b < n)) (H ++ e ∷ [])) (sym count)
+    (All-push (λ (x : Entry). (x.a < length old) × (x.b < length old)) H e ends (a_in, b_in))

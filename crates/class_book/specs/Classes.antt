@@ -21,6 +21,10 @@ pub record IsClass (labels : List ℕ) (journal : List Entry) (node : ℕ) (memb
   pub joined : (n : ℕ) → n < length labels → Contains members n ↔ Joined journal node n
   pub once : (i j n : ℕ) → slice_get members i ≡ Some n → slice_get members j ≡ Some n → i ≡ j
 
+-- both ends of each identification are nodes
+abbrev pub EndsAreNodes : List ℕ → List Entry → Type 0
+EndsAreNodes labels journal = All (λ e. (e.a < length labels) × (e.b < length labels)) journal
+
 -- how many nodes have a label
 abbrev pub size_of : List ℕ → ℕ → ℕ
 size_of labels label = count_by (λ l. l == label) labels

@@ -3,7 +3,7 @@ use Rattle.std.specs.Prelude.{List, ℕ, cond, length, slice_index, ◌≡◌, �
 use Rattle.list_pool.specs.Counts.{times}
 use Rattle.list_pool.specs.Pool.{list_at}
 use Rattle.chase_laws.specs.declared.entry.Entry.{Entry}
-use Rattle.class_book.specs.Classes.{IsLabelled, size_of}
+use Rattle.class_book.specs.Classes.{EndsAreNodes, IsLabelled, size_of}
 
 -- sizes and member lists that fit the labels: what a book keeps beside what the journal joins
 pub record IsRoster (labels sizes : List ℕ) (members : List (List ℕ)) : Type 0 where
@@ -18,5 +18,6 @@ pub record IsRoster (labels sizes : List ℕ) (members : List (List ℕ)) : Type
 -- what each book keeps
 pub record IsBook (labels sizes : List ℕ) (members : List (List ℕ)) (journal : List Entry) (room : ℕ) : Type 0 where
   pub labelled : IsLabelled labels journal
+  pub ends : EndsAreNodes labels journal
   pub roster : IsRoster labels sizes members
   pub narrow : room < 2 ^ 32

@@ -3,7 +3,7 @@
 ghost use Rattle.std.specs.Prelude.{◌≡◌, ◌<◌, ◌≤◌, ◌↔◌, ◌++◌, [], ◌∷◌, ◌+◌, ◌-◌, ◌*◌, ℕ, Some, length, slice_index, slice_get, IfOk, IfSome, IsNone, IsTrue};
 ghost use Rattle.list_pool.specs.Pool.{joined_lists};
 ghost use Rattle.chase_laws.specs.Joined.{Joined};
-ghost use Rattle.class_book.specs.Classes.{class_of, IsClass, IsLabelled, relabelled, going, staying, changed_count, size_of};
+ghost use Rattle.class_book.specs.Classes.{class_of, EndsAreNodes, IsClass, IsLabelled, relabelled, going, staying, changed_count, size_of};
 
 use crate::choice::stay_and_go;
 use crate::fresh::{numbers, ones, singles};
@@ -96,7 +96,10 @@ impl Book {
     /// The identifications in the order in which they were entered.
     #[inline]
     pub fn journal(&self) -> &[Entry]
-        ensures { result.now ≡ self.now.journal }
+        ensures journal { result.now ≡ self.now.journal }
+
+        // What holds of every book: the ends of its identifications are nodes.
+        ensures ends { EndsAreNodes self.now.labels self.now.journal }
     {
         &self.journal
     }
@@ -170,6 +173,7 @@ impl Book {
         ensures labels { result.0.items ≡ self.labels }
         ensures journal { result.1.items ≡ self.journal }
         ensures labelled { IsLabelled self.labels self.journal }
+        ensures ends { EndsAreNodes self.labels self.journal }
     {
         let Book {
             labels,

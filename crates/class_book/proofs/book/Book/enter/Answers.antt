@@ -1,11 +1,12 @@
 use Rattle.std.proofs.Common.{◌∙◌, ap, subst, arith, ◌<◌, ◌≡◌, ◌≢◌, length, get_or}
-use Rattle.std.proofs.lemmas.List.{get_or_default}
+use Rattle.std.proofs.lemmas.List.{get_or_default, length-map}
 use Rattle.std.proofs.lemmas.List.Elements.{All-get_or}
 use Rattle.list_pool.specs.Pool.{joined_lists}
 use Rattle.chase_laws.specs.Joined.{Joined}
 use Rattle.class_book.specs.Classes.{Classes, going, staying, relabelled, IsLabelled}
 use Rattle.class_book.proofs.Choosing.{picked, staying_in_range, going_in_range, parted, either, at_most_half}
-use Rattle.class_book.proofs.Entered.{entered_by}
+use Rattle.class_book.proofs.Entered.{ends_more, entered_by}
+use Rattle.class_book.proofs.Merging.{moved}
 use Rattle.class_book.proofs.Joins.{Law}
 use Rattle.class_book.proofs.book.Book.enter.Goals as goal
 
@@ -86,7 +87,13 @@ invariant_of-self c =
     let law : Law = record { reflexive = said.reflexive; symmetric = said.symmetric; transitive = said.transitive; last = said.last; grows = said.grows } in
     let labelled : IsLabelled c.merge.new.labels.items c.push_reserved.new.self.items = rw (made, c.push_reserved.ensures.items)
     (entered_by law labels inside.journal.items c.args.entry (staying labels x y) (going labels x y) c.self.invariant.labelled a_in b_in (either labels x y)) in
-    record { labelled = labelled; roster = c.merge.ensures.roster; narrow = omega (arith, c.push_reserved.ensures.capacity, c.self.invariant.narrow) }
+    let count : length c.merge.new.labels.items ≡ length labels = ap length made ∙ length-map labels (moved (going labels x y) (staying labels x y)) in
+    record {
+      labelled = labelled;
+      ends = rw c.push_reserved.ensures.items (ends_more labels c.merge.new.labels.items inside.journal.items c.args.entry count c.self.invariant.ends a_in b_in);
+      roster = c.merge.ensures.roster;
+      narrow = omega (arith, c.push_reserved.ensures.capacity, c.self.invariant.narrow);
+    }
 
 pub returns-clause-labels : goal.returns-clause-labels
 returns-clause-labels c =
