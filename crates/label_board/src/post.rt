@@ -32,12 +32,12 @@ fn write_class(words: &Words, scribe: &mut Place, book: &Book, name: u32)
 
 impl Board {
     /// Posts the last entry of a book: counts it up, then writes the labels of the class that it made. The book has to be
-    /// over the board's names, and its journal has to be what was posted and one entry more, of names. Afterwards the
-    /// members of that class are shown with their labels of the book, and all other names as before.
+    /// over the board's names, and its journal has to be what was posted and one entry more. Afterwards the members of that
+    /// class are shown with their labels of the book, and all other names as before.
     pub fn post(&self, scribe: &mut Scribe, book: &Book)
         requires board { scribe.old.board ≡ self.now.id }
         requires names { length book.now.labels ≡ self.now.names }
-        requires more { (e : Entry) × (e.a < self.now.names) × (book.now.journal ≡ scribe.old.posted ++ e ∷ []) }
+        requires more { (e : Entry) × (book.now.journal ≡ scribe.old.posted ++ e ∷ []) }
         ensures board { scribe.new.board ≡ scribe.old.board }
         ensures posted { scribe.new.posted ≡ book.now.journal }
         ensures shown { (e : Entry) → book.now.journal ≡ scribe.old.posted ++ e ∷ [] → ShowsClass scribe.old.shown book.now e.a scribe.new.shown }

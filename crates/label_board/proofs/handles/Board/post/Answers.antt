@@ -16,5 +16,5 @@ returns-clause-labels c = λ before e labelled entered posted shown.
     let was : counted ≡ c.args.scribe.now.shown = ap (λ (m : Seated). m.0.shown) c.count_up.ensures.me ∙ ap (λ (s : SeenScribe). s.shown) c.scribe.view_is in
     let last : (xs : List Entry) (d : Entry) → get_or (xs ++ e ∷ []) (length (xs ++ e ∷ []) - 1) d ≡ e = λ xs d. get_or_push xs e d (length (xs ++ e ∷ []) - 1) (omega (arith, length-append xs (e ∷ []))) in
     let entry = c.index-journal-place.result in
-    let is : entry ≡ e = c.index-journal-place.is ∙ ap (λ (l : List Entry). get_or l (length l - 1) entry) (c.journal-journal.ensures ∙ entered.journal) ∙ last before.journal entry in
+    let is : entry ≡ e = c.index-journal-place.is ∙ ap (λ (l : List Entry). get_or l (length l - 1) entry) (c.journal-journal.ensures.journal ∙ entered.journal) ∙ last before.journal entry in
     shown_again before e book labelled entered after (subst (λ l. ShowsClass l book e.a after) (was ∙ shown) (subst (λ (x : Entry). ShowsClass counted book x.a after) is (subst (ShowsClass counted book entry.a) (sym kept) c.write_class.ensures.shown)))
