@@ -314,11 +314,10 @@ fn take_next(
 
 /// How many names are in the class that the last entry made.
 fn last_class(shared: &Shared<'_>) -> usize {
-    let names = shared.chase.setup().graph().names();
     let book = shared.chase.book();
     match book.journal().last() {
-        Some(entry) if entry.a < names => book.size(entry.a) as usize,
-        _ => 0,
+        Some(entry) => book.size(entry.a) as usize,
+        None => 0,
     }
 }
 

@@ -2,7 +2,7 @@
 
 ghost use Rattle.std.specs.Prelude.{◌≡◌, ◌++◌, ◌<◌, ◌^◌, ℕ, List, All, IfSome, IsTrue, MatchOption, length};
 ghost use Rattle.chase_laws.specs.declared.entry.Entry.{Entry};
-ghost use Rattle.chase_laws.specs.Core.{Happens, IsPresent, IsSound, ListsNear, PairAt, State};
+ghost use Rattle.chase_laws.specs.Core.{Happens, IsPresent, ListsNear, PairAt, State};
 ghost use Rattle.chase_laws.specs.Core.Event.{Enter};
 ghost use Rattle.chase_core.specs.Running.{IsRunning, state_in};
 ghost use Rattle.chase_core.specs.Settling.{IsFoundBy, IsRightOutcome, Notes, Settles};
@@ -43,14 +43,12 @@ impl<'a> Journaled for Shared<'a> {
 /// Posts the last entry of a chase whose other entries were posted, and whose labels before it are shown.
 fn post_last(board: &Board, scribe: &mut Scribe, chase: &Chase<'_>)
     requires board { board_over chase.now.setup scribe.old.board ≡ board.now }
-    requires entered { (old : State) × (p : ℕ) × (e : Entry) × Happens chase.now.setup.task old (Enter p e) (state_in chase.now) × IsSound chase.now.setup.task old
+    requires entered { (old : State) × (p : ℕ) × (e : Entry) × Happens chase.now.setup.task old (Enter p e) (state_in chase.now)
         × (scribe.old.posted ≡ old.journal) × (scribe.old.shown ≡ old.labels) }
     ensures board { scribe.new.board ≡ scribe.old.board }
     ensures posted { scribe.new.posted ≡ chase.now.book.journal }
     ensures shown { scribe.new.shown ≡ chase.now.book.labels }
 {
-    // What holds of every chase.
-    let _ = chase.setup().pairs();
     board.post(scribe, chase.book());
 }
 
