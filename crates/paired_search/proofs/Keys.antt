@@ -7,13 +7,13 @@ use Rattle.chase_laws.specs.Graph.{NumberedGraph, HasType}
 use Rattle.chase_laws.specs.Valuation.{IsMatch}
 use Rattle.paired_search.proofs.PartLaws.{some_same}
 
--- none of the keys up to one more has two such lists
-pub none_more : (K : List Shape) (M : Shape → List ℕ → List ℕ → Type 0) (i : ℕ) (Q : Shape) → slice_get K i ≡ Some Q
-    → ((k : ℕ) (P : Shape) (v w : List ℕ) → k < i → slice_get K k ≡ Some P → M P v w → ⊥) → ((v w : List ℕ) → M Q v w → ⊥)
-    → (k : ℕ) (P : Shape) (v w : List ℕ) → k < i + 1 → slice_get K k ≡ Some P → M P v w → ⊥
-none_more K M i Q here before none k P v w lt at m = elim (cases_eq k i) [
+-- none of the keys up to one more, of those that are asked, has two such lists
+pub none_more : (K : List Shape) (Asked : ℕ → Type 0) (M : Shape → List ℕ → List ℕ → Type 0) (i : ℕ) (Q : Shape) → slice_get K i ≡ Some Q
+    → ((k : ℕ) (P : Shape) (v w : List ℕ) → k < i → Asked k → slice_get K k ≡ Some P → M P v w → ⊥) → ((v w : List ℕ) → M Q v w → ⊥)
+    → (k : ℕ) (P : Shape) (v w : List ℕ) → k < i + 1 → Asked k → slice_get K k ≡ Some P → M P v w → ⊥
+none_more K Asked M i Q here before none k P v w lt asked at m = elim (cases_eq k i) [
   | inl e ↦ none v w (subst (λ (S : Shape). M S v w) (some_same P Q (sym at ∙ ap (slice_get K) e ∙ here)) m)
-  | inr ne ↦ before k P v w (omega arith) at m
+  | inr ne ↦ before k P v w (omega arith) asked at m
 ]
 
 -- two names that a key matches have the type that it designates

@@ -1,5 +1,6 @@
 -- what callers of this crate read
 pub mod Held
+pub mod KeyRange
 pub mod Plans
 pub mod Both
 -- inner invariants and words of the proofs

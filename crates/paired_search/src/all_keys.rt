@@ -1,16 +1,17 @@
-//! The search over all keys, and the search for one of them.
+//! The search over the keys of a range, or all, and the search for one of them.
 
 ghost use Rattle.std.specs.Prelude.{◌≡◌, ◌<◌, ◌≤◌, ◌^◌, ◌↔◌, [], ℕ, List, IsTrue, IsFalse, Some, IfSome, IfNone, length, slice_get, slice_index};
 ghost use Rattle.chase_laws.specs.Shape.{Shape};
 ghost use Rattle.chase_laws.specs.Graph.{HasType};
 ghost use Rattle.chase_laws.specs.Valuation.{IsMatch, Matches};
 ghost use Rattle.key_plan.specs.Route.{IsPlanOf};
+ghost use Rattle.paired_search.specs.KeyRange.{IsWithin};
 ghost use Rattle.paired_search.specs.Part.{IsPlaced, IsReady};
 ghost use Rattle.paired_search.specs.Plans.{ArePlans};
 
-use crate::Sameness;
 use crate::extend::{extend, joins};
 use crate::fits::goes_on;
+use crate::{KeyRange, Sameness};
 use chase_laws::{Pattern, Places};
 use key_plan::Plan;
 use typed_graph::Graph;
@@ -109,14 +110,15 @@ fn have_type(graph: &Graph, t: u32, a: u32, b: u32) -> bool
     graph.has_type(a, t) && graph.has_type(b, t)
 }
 
-/// Looks for a key with two valuations at `a` and `b` that coincide up to the names that are the same by the view, and
-/// gives the first key that has some. None comes exactly where no key has any, whatever numbers `a` and `b` are. The
-/// plan at each place has to be that of the pattern there. It takes no memory. Of keys behind one another that designate one
-/// type, the type is tested once where it is missing.
-pub fn search<S: Sameness>(
+/// Looks among the keys of a range for one with two valuations at `a` and `b` that coincide up to the names that are the same by
+/// the view, and gives the first that has some. None comes exactly where no key of the range has any, whatever numbers `a` and
+/// `b` are. The plan at each place has to be that of the pattern there. It takes no memory. Of keys behind one another that
+/// designate one type, the type is tested once where it is missing.
+pub fn search_within<S: Sameness>(
     graph: &Graph,
     patterns: &[Pattern],
     plans: &[Plan],
+    range: KeyRange,
     a: u32,
     b: u32,
     view: &S,
@@ -125,14 +127,18 @@ pub fn search<S: Sameness>(
     requires plans { ArePlans patterns.now plans.now }
     ensures found { IfSome result (λ f. (Q : Shape) × (slice_get patterns.now f.key ≡ Some Q)
         × IsMatch graph.now Q (S.are_same view.now) a b f.left f.right) }
-    ensures first { IfSome result (λ f. (k : ℕ) (Q : Shape) (v w : List ℕ) → k < f.key → slice_get patterns.now k ≡ Some Q →
-        ¬ (IsMatch graph.now Q (S.are_same view.now) a b v w)) }
-    ensures none { IfNone result (¬ (Matches graph.now patterns.now (S.are_same view.now) a b)) }
+    ensures within { IfSome result (λ f. IsWithin range f.key) }
+    ensures first { IfSome result (λ f. (k : ℕ) (Q : Shape) (v w : List ℕ) → k < f.key → IsWithin range k →
+        slice_get patterns.now k ≡ Some Q → ¬ (IsMatch graph.now Q (S.are_same view.now) a b v w)) }
+    ensures none { IfNone result ((k : ℕ) (Q : Shape) (v w : List ℕ) → IsWithin range k →
+        slice_get patterns.now k ≡ Some Q → ¬ (IsMatch graph.now Q (S.are_same view.now) a b v w)) }
 {
     let mut left = Places::empty();
     let mut right = Places::empty();
     let mut missing = None;
-    for key in 0..patterns.len() {
+    let first = range.first as usize;
+    let end = range.end_among(patterns.len());
+    for key in first..end {
         let pattern = &patterns[key];
         let plan = &plans[key];
         let designated = pattern.designated_type();
@@ -153,4 +159,27 @@ pub fn search<S: Sameness>(
         }
     }
     None
+}
+
+/// Looks for a key with two valuations at `a` and `b` that coincide up to the names that are the same by the view, and
+/// gives the first key that has some. None comes exactly where no key has any, whatever numbers `a` and `b` are. The
+/// plan at each place has to be that of the pattern there. It takes no memory. Of keys behind one another that designate one
+/// type, the type is tested once where it is missing.
+pub fn search<S: Sameness>(
+    graph: &Graph,
+    patterns: &[Pattern],
+    plans: &[Plan],
+    a: u32,
+    b: u32,
+    view: &S,
+) -> Option<Finding>
+    requires few { length patterns.now < 2 ^ 32 }
+    requires plans { ArePlans patterns.now plans.now }
+    ensures found { IfSome result (λ f. (Q : Shape) × (slice_get patterns.now f.key ≡ Some Q)
+        × IsMatch graph.now Q (S.are_same view.now) a b f.left f.right) }
+    ensures first { IfSome result (λ f. (k : ℕ) (Q : Shape) (v w : List ℕ) → k < f.key → slice_get patterns.now k ≡ Some Q →
+        ¬ (IsMatch graph.now Q (S.are_same view.now) a b v w)) }
+    ensures none { IfNone result (¬ (Matches graph.now patterns.now (S.are_same view.now) a b)) }
+{
+    search_within(graph, patterns, plans, KeyRange::ALL, a, b, view)
 }

@@ -10,7 +10,8 @@
 //! - `fits`: what one more name has to be
 //! - `choices`: which names may come next
 //! - `extend`: two valuations, extended slot by slot
-//! - `all_keys`: the search over all keys
+//! - `key_range`: which keys are searched
+//! - `all_keys`: the search over the keys of a range, or all
 #![tactic(auto)]
 
 mod all_keys;
@@ -18,12 +19,14 @@ mod both;
 mod choices;
 mod extend;
 mod fits;
+mod key_range;
 mod planning;
 mod sameness;
 mod view;
 
-pub use all_keys::{Finding, search};
+pub use all_keys::{Finding, search, search_within};
 pub use both::{least_from, past};
+pub use key_range::KeyRange;
 pub use planning::plan_all;
 pub use sameness::Sameness;
 pub use view::View;
