@@ -1,2 +1,3 @@
+mod Idle
 mod Steps
 mod Selections

@@ -1,10 +1,11 @@
 -- What is kept of pairs of which those with a property are kept.
-use Rattle.std.proofs.Common.{List, [], ◌∷◌, ◌++◌, ℕ, zero, suc, Bool, true, false, All, Contains, length, ◌≡◌, ◌<◌, ◌≤◌, ◌↔◌, ◌⊎◌, inl, inr, refl, sym, ap, subst, true≢false, arith}
-use Rattle.std.specs.List.{AllPairs, AllZip}
+use Rattle.std.proofs.Common.{List, [], ◌∷◌, ◌++◌, ℕ, zero, suc, Option, Some, None, map, All, Contains, length, ◌≡◌, ◌<◌, ◌≤◌, ◌⊎◌, inl, inr, refl, sym, ap, subst, arith}
+use Rattle.std.specs.Prelude.{MatchOption}
+use Rattle.std.specs.List.{AllPairs, AllZip, filter_map}
 use Rattle.std.proofs.lemmas.List.Elements.{All-cons, All-nil, All-contains, Contains-append_right, Contains-append_cases}
 use Rattle.std.proofs.lemmas.List.Kept.{AllPairs-cons}
-use Rattle.rayon.specs.Lists.{filter_by_mask}
 use Rattle.chase_laws.specs.Candidate.{AreAscending}
+use Rattle.paired_search.specs.declared.key_range.KeyRange.{KeyRange}
 use Rattle.pair_filter.specs.Selection.{IsSelection}
 
 module _ (P : ℕ × ℕ → Type 0) where
@@ -88,13 +89,6 @@ module _ (P : ℕ × ℕ → Type 0) where
   pub selection_ascending : (xs ys : List (ℕ × ℕ)) → IsSelection P xs ys → AreAscending xs → AreAscending ys
   selection_ascending xs ys h up = selection_pairs (λ x y. (x.0 < y.0) ⊎ ((x.0 ≡ y.0) × (x.1 < y.1))) xs ys h up
 
-  -- what a filter keeps, by the answers of its test
-  pub selection_mask : (xs : List (ℕ × ℕ)) (bs : List Bool) → AllZip (λ x b. (b ≡ true) ↔ P x) xs bs → IsSelection P xs (filter_by_mask xs bs)
-  selection_mask [] bs h = refl
-  selection_mask (x ∷ xs) [] h = absurd h
-  selection_mask (x ∷ xs) (true ∷ bs) h = inl (filter_by_mask xs bs, h.0.0 refl, refl, selection_mask xs bs h.1)
-  selection_mask (x ∷ xs) (false ∷ bs) h = inr ((λ p. true≢false (sym (h.0.1 p))), selection_mask xs bs h.1)
-
   -- no more are kept than there were
   pub selection_length : (xs ys : List (ℕ × ℕ)) → IsSelection P xs ys → length ys ≤ length xs
   selection_length [] ys h = rw h (omega arith)
@@ -102,3 +96,28 @@ module _ (P : ℕ × ℕ → Type 0) where
     | inl r ↦ rw r.2 (omega (arith, selection_length xs r.0 r.3))
     | inr r ↦ omega (arith, selection_length xs ys r.1)
   ]
+
+module _ (P : ℕ × ℕ → Type 0) (R : ℕ × ℕ → KeyRange → Type 0) where
+  -- what a test gives of a pair: nothing where it has not the property, and else the pair with a range
+  abbrev pub Tells : ℕ × ℕ → Option ((ℕ × ℕ) × KeyRange) → Type 0
+  Tells x o = MatchOption o (¬ (P x)) (λ kept. (kept.0 ≡ x) × P x × R x kept.1)
+
+  -- the pairs that it gives are those that are kept
+  pub selection_told : (xs : List (ℕ × ℕ)) (os : List (Option ((ℕ × ℕ) × KeyRange))) → AllZip Tells xs os
+      → IsSelection P xs (map (λ k. k.0) (filter_map (λ o. o) os))
+  selection_told [] [] h = refl
+  selection_told [] (o ∷ os) h = absurd h
+  selection_told (x ∷ xs) [] h = absurd h
+  selection_told (x ∷ xs) (None ∷ os) h = inr (h.0, selection_told xs os h.1)
+  selection_told (x ∷ xs) (Some k ∷ os) h =
+      let rest : List (ℕ × ℕ) = map (λ q. q.0) (filter_map (λ o. o) os) in
+      inl (rest, h.0.1, ap (λ y. y ∷ rest) h.0.0, selection_told xs os h.1)
+
+  -- and each has its range beside it
+  pub ranges_told : (xs : List (ℕ × ℕ)) (os : List (Option ((ℕ × ℕ) × KeyRange))) → AllZip Tells xs os
+      → AllZip R (map (λ k. k.0) (filter_map (λ o. o) os)) (map (λ k. k.1) (filter_map (λ o. o) os))
+  ranges_told [] [] h = tt
+  ranges_told [] (o ∷ os) h = absurd h
+  ranges_told (x ∷ xs) [] h = absurd h
+  ranges_told (x ∷ xs) (None ∷ os) h = ranges_told xs os h.1
+  ranges_told (x ∷ xs) (Some k ∷ os) h = (subst (λ y. R y k.1) (sym h.0.0) h.0.2, ranges_told xs os h.1)

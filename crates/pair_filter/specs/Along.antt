@@ -4,7 +4,6 @@ use Rattle.chase_laws.specs.declared.pattern.Edge.{Edge}
 use Rattle.chase_laws.specs.declared.pattern.Slot.TheVariants.{Value}
 use Rattle.chase_laws.specs.Shape.{Shape}
 use Rattle.chase_laws.specs.Graph.{NumberedGraph, HasRow}
-use Rattle.chase_laws.specs.Valuation.{Designates}
 use Rattle.chase_laws.specs.Pairing.{PairedHere, ArePaired}
 
 -- If the edge begins at slot s, rows lead from u and w to two numbers that are paired to depth d at its end.
@@ -72,9 +71,3 @@ pub record HaveCommonPartner (G : NumberedGraph) (Q : Shape) (skipped : Option â
   pub in_first : Contains xs right
   pub in_second : Contains ys right
   pub paired : ArePairedExcept G Q skipped d s u right
-
--- the key designates a type of both, and they are paired to depth 2 at its first slot
-pub record ArePairedUnder (G : NumberedGraph) (Q : Shape) (a b : â„•) : Type 0 where
-  pub left : Designates G Q a
-  pub right : Designates G Q b
-  pub paired : ArePaired G Q 2 0 a b

@@ -1,4 +1,6 @@
 -- what callers of this crate read
 pub mod Selection
+pub mod Keys
 -- inner invariants and words of the proofs
 pub mod Along
+pub mod Telling

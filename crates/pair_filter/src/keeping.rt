@@ -1,18 +1,19 @@
 //! Which candidate pairs are kept.
 
-ghost use Rattle.std.specs.Prelude.{◌≡◌, ◌≤◌, ◌↔◌, ℕ, Contains, IfOk, IsTrue, length};
-ghost use Rattle.chase_laws.specs.declared.pattern.Slot.TheVariants.{Entity};
+ghost use Rattle.std.specs.Prelude.{◌<◌, ◌≤◌, ◌↔◌, ℕ, Contains, IfOk, length};
+ghost use Rattle.std.specs.List.{AllZip};
 ghost use Rattle.chase_laws.specs.Candidate.{AreAscending};
 ghost use Rattle.chase_laws.specs.Chase.{IsAble};
-ghost use Rattle.chase_laws.specs.Pairing.{PairedHere, ArePairedBy};
-ghost use Rattle.chase_laws.specs.Valuation.{FitsSlot};
-ghost use Rattle.pair_filter.specs.Along.{ArePairedUnder};
+ghost use Rattle.chase_laws.specs.Pairing.{ArePairedBy};
+ghost use Rattle.pair_filter.specs.Keys.{AreKeysOf};
 ghost use Rattle.pair_filter.specs.Selection.{IsSelection};
+ghost use Rattle.pair_filter.specs.Telling.{TellsKeys};
 
-use crate::paired::are_paired_along;
+use crate::keys::keys_of;
+use chase_laws::Pattern;
 use chase_laws::laws::law_paired;
-use chase_laws::{Pattern, Slot};
 use gk_base::NoMemory;
+use paired_search::KeyRange;
 use rayon::current_num_threads;
 use rayon::prelude::*;
 use std::alloc::{AllocError, Global};
@@ -22,45 +23,11 @@ use typed_graph::Graph;
 /// Below so many pairs a thread costs more than it saves.
 const FEW: usize = 2048;
 
-/// How many edges away from its two names a pair is looked at.
-const DEPTH: u8 = 2;
-
-/// Whether two names are entities of a type.
-fn have_type(graph: &Graph, t: u32, a: u32, b: u32) -> bool
-    ensures { IsTrue result ↔ (FitsSlot graph.now (Entity t) a × FitsSlot graph.now (Entity t) b) }
-{
-    graph.fits_slot(Slot::Entity(t), a) && graph.fits_slot(Slot::Entity(t), b)
-}
-
-/// Whether a key pairs two names to depth 2 which can go together at its first slot.
-fn is_kept_by(graph: &Graph, pattern: &Pattern, a: u32, b: u32) -> bool
-    requires { PairedHere graph.now pattern.now 0 a b }
-    ensures { IsTrue result ↔ ArePairedUnder graph.now pattern.now a b }
-{
-    // A fact for the proof: slot 0 is an entity variable.
-    let _ = pattern.designated_type();
-    are_paired_along(graph, pattern, None, DEPTH, 0, a, b)
-}
-
-/// Whether some key does. Of keys behind one another that designate one type, the type is tested once where it is missing.
-fn is_kept(graph: &Graph, patterns: &[Pattern], pair: (u32, u32)) -> bool
-    ensures { IsTrue result ↔ ArePairedBy graph.now patterns.now 2 pair.0 pair.1 }
-{
-    let mut missing = None;
-    for pattern in patterns {
-        let designated = pattern.designated_type();
-        if missing == Some(designated) {
-            continue;
-        }
-        if !have_type(graph, designated, pair.0, pair.1) {
-            missing = Some(designated);
-            continue;
-        }
-        if is_kept_by(graph, pattern, pair.0, pair.1) {
-            return true;
-        }
-    }
-    false
+/// Pairs that are kept, and at the same places the keys that may identify each.
+#[derive(Drop)]
+pub struct KeptPairs {
+    pub pairs: Vec<(u32, u32)>,
+    pub keys: Vec<KeyRange>,
 }
 
 /// Those of some pairs that are kept, in order, on the caller's thread.
@@ -69,55 +36,104 @@ fn keep_alone(
     graph: &Graph,
     patterns: &[Pattern],
     pairs: &[(u32, u32)],
-) -> Result<Vec<(u32, u32)>, NoMemory>
-    ensures { IfOk result (λ v. IsSelection (λ x. ArePairedBy graph.now patterns.now 2 x.0 x.1) pairs.now v.items) }
+) -> Result<KeptPairs, NoMemory>
+    ensures kept { IfOk result (λ v. IsSelection (λ x. ArePairedBy graph.now patterns.now 2 x.0 x.1) pairs.now v.pairs.items) }
+    ensures keys { IfOk result (λ v. AllZip (λ x range. AreKeysOf graph.now patterns.now range x.0 x.1) v.pairs.items v.keys.items) }
 {
     let mut kept = Vec::new(alloc);
+    let mut keys = Vec::new(alloc);
     for pair in pairs {
-        if !is_kept(graph, patterns, *pair) {
+        let Some(range) = keys_of(graph, patterns, *pair) else {
             continue;
-        }
+        };
         kept.push(*pair)?;
+        keys.push(range)?;
     }
-    Ok(kept)
+    Ok(KeptPairs { pairs: kept, keys })
 }
 
-/// The same, where the pairs are cut into pieces, a thread filters each, and what is kept of each is joined in order. Where a
-/// thread can't be started the caller does its work.
+/// A pair with the keys that may identify it; None where it is not kept.
+fn with_keys(
+    graph: &Graph,
+    patterns: &[Pattern],
+    pair: (u32, u32),
+) -> Option<((u32, u32), KeyRange)>
+    ensures { TellsKeys graph.now patterns.now pair result }
+{
+    let keys = keys_of(graph, patterns, pair)?;
+    Some((pair, keys))
+}
+
+/// The same, where the pairs are cut into pieces, no more than there may be threads, a thread filters each, and what is kept of
+/// each is joined in order. Where a thread can't be started the caller does its work.
 fn keep_in_pieces<R: Threads + Sync>(
     rt: &R,
     alloc: Global,
+    threads: u32,
     graph: &Graph,
     patterns: &[Pattern],
     pairs: &[(u32, u32)],
-) -> Result<Vec<(u32, u32)>, AllocError>
-    ensures { IfOk result (λ v. IsSelection (λ x. ArePairedBy graph.now patterns.now 2 x.0 x.1) pairs.now v.items) }
+) -> Result<KeptPairs, AllocError>
+    requires { 0 < threads }
+    ensures kept { IfOk result (λ v. IsSelection (λ x. ArePairedBy graph.now patterns.now 2 x.0 x.1) pairs.now v.pairs.items) }
+    ensures keys { IfOk result (λ v. AllZip (λ x range. AreKeysOf graph.now patterns.now range x.0 x.1) v.pairs.items v.keys.items) }
 {
-    pairs
+    let piece = (pairs.len() / threads as usize).max(FEW / 2);
+    let (pairs, keys) = pairs
         .par_iter()
         .copied()
-        .filter(
-            |pair: &(u32, u32)| -> bool
-                ensures { IsTrue result ↔ ArePairedBy graph.entry.now patterns.entry.now 2 pair.now.0 pair.now.1 }
-            { is_kept(graph, patterns, *pair) },
+        .with_min_len(piece)
+        .filter_map(
+            |pair: (u32, u32)| -> Option<((u32, u32), KeyRange)>
+                ensures { TellsKeys graph.entry.now patterns.entry.now pair result }
+            { with_keys(graph, patterns, pair) },
         )
-        .collect(rt, alloc)
+        .unzip(rt, alloc)?;
+    Ok(KeptPairs { pairs, keys })
 }
 
-/// The same, on the caller's thread where more would not serve.
+/// The same, on the caller's thread where more may not be used or would not serve.
 fn select<R: Threads + Sync>(
     rt: &R,
     alloc: Global,
+    threads: u32,
     graph: &Graph,
     patterns: &[Pattern],
     pairs: &[(u32, u32)],
-) -> Result<Vec<(u32, u32)>, NoMemory>
-    ensures { IfOk result (λ v. IsSelection (λ x. ArePairedBy graph.now patterns.now 2 x.0 x.1) pairs.now v.items) }
+) -> Result<KeptPairs, NoMemory>
+    ensures kept { IfOk result (λ v. IsSelection (λ x. ArePairedBy graph.now patterns.now 2 x.0 x.1) pairs.now v.pairs.items) }
+    ensures keys { IfOk result (λ v. AllZip (λ x range. AreKeysOf graph.now patterns.now range x.0 x.1) v.pairs.items v.keys.items) }
 {
-    if pairs.len() < FEW || current_num_threads(rt) == 1 {
+    if threads < 2 || pairs.len() < FEW {
         return keep_alone(alloc, graph, patterns, pairs);
     }
-    let kept = keep_in_pieces(rt, alloc, graph, patterns, pairs)?;
+    let kept = keep_in_pieces(rt, alloc, threads, graph, patterns, pairs)?;
+    Ok(kept)
+}
+
+/// Of some pairs, in their order, exactly those that `keep` keeps, and for each of them which keys may identify it: a key outside
+/// of its range does not, whatever else is the same, and the range begins and ends with a key that pairs the two, where it tells
+/// these places. `threads` says how many threads may be used, the caller's among them.
+///
+/// Fails only for want of memory. The answer is the same whatever the number of threads.
+pub fn keep_with_keys<R: Threads + Sync>(
+    rt: &R,
+    alloc: Global,
+    threads: u32,
+    graph: &Graph,
+    patterns: &[Pattern],
+    pairs: &[(u32, u32)],
+) -> Result<KeptPairs, NoMemory>
+    ensures kept { IfOk result (λ v. IsSelection (λ x. ArePairedBy graph.now patterns.now 2 x.0 x.1) pairs.now v.pairs.items) }
+    ensures exact { IfOk result (λ v. (a b : ℕ) → Contains v.pairs.items (a, b) ↔ (Contains pairs.now (a, b) × ArePairedBy graph.now patterns.now 2 a b)) }
+    ensures able { IfOk result (λ v. (a b : ℕ) → IsAble graph.now patterns.now a b → Contains pairs.now (a, b) → Contains v.pairs.items (a, b)) }
+    ensures few { IfOk result (λ v. length v.pairs.items ≤ length pairs.now) }
+    ensures ascending { IfOk result (λ v. AreAscending pairs.now → AreAscending v.pairs.items) }
+    ensures keys { IfOk result (λ v. AllZip (λ x range. AreKeysOf graph.now patterns.now range x.0 x.1) v.pairs.items v.keys.items) }
+{
+    // A fact for the proof: able pairs are paired.
+    law_paired();
+    let kept = select(rt, alloc, threads, graph, patterns, pairs)?;
     Ok(kept)
 }
 
@@ -139,8 +155,7 @@ pub fn keep<R: Threads + Sync>(
     ensures few { IfOk result (λ v. length v.items ≤ length pairs.now) }
     ensures ascending { IfOk result (λ v. AreAscending pairs.now → AreAscending v.items) }
 {
-    // A fact for the proof: able pairs are paired.
-    law_paired();
-    let kept = select(rt, alloc, graph, patterns, pairs)?;
-    Ok(kept)
+    let threads = u32::try_from(current_num_threads(rt)).unwrap_or(u32::MAX);
+    let kept = keep_with_keys(rt, alloc, threads, graph, patterns, pairs)?;
+    Ok(kept.pairs)
 }

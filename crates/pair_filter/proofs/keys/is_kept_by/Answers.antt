@@ -1,7 +1,7 @@
 use Rattle.std.proofs.Common.{Some, None, slice_get, ◌≡◌}
 use Rattle.chase_laws.specs.declared.pattern.Slot.TheVariants.{Entity}
 use Rattle.pair_filter.proofs.Steps.{except_any, except_none}
-use Rattle.pair_filter.proofs.keeping.is_kept_by.Goals as goal
+use Rattle.pair_filter.proofs.keys.is_kept_by.Goals as goal
 
 pub returns : goal.returns
 returns c =

@@ -1,0 +1,97 @@
+-- A key with a match pairs its ends to depth 2, so a key that does not is idle.
+use Rattle.std.proofs.Common.{List, ℕ, zero, suc, Bool, Some, All, slice_get, slice_index, get_or, ◌≡◌, ◌<◌, ◌+◌, ◌≤◌, inl, inr, sym, ◌∙◌, ap, subst, arith}
+use Rattle.std.proofs.lemmas.Bool.{cases_eq}
+use Rattle.chase_laws.specs.declared.pattern.Slot.{Slot}
+use Rattle.chase_laws.specs.declared.pattern.Slot.TheVariants.{Entity, Any as AnyOf, Value, Folded, Fixed}
+use Rattle.chase_laws.specs.declared.pattern.Edge.{Edge}
+use Rattle.chase_laws.specs.Shape.{Shape}
+use Rattle.chase_laws.specs.Graph.{NumberedGraph, HasRow}
+use Rattle.chase_laws.specs.Valuation.{FitsSlot, AgreeAt, IsMatch}
+use Rattle.chase_laws.specs.Pairing.{GoTogether, PairedHere, ArePaired}
+use Rattle.pair_filter.specs.Keys.{ArePairedUnder}
+use Rattle.pair_filter.specs.Telling.{IsRuledOut}
+
+some_same : {A : Type 0} (x y : A) → Some x ≡ Some y → x ≡ y
+some_same x y e = cc
+
+module _ (G : NumberedGraph) where
+  -- two images that agree can go together
+  together : (same : ℕ → ℕ → Bool) (s : ℕ) (slot : Slot) (u w : ℕ) → FitsSlot G slot u → FitsSlot G slot w → AgreeAt G same s slot u w → GoTogether G slot u w
+  together same s (Entity t) u w h k agree = tt
+  together same s (AnyOf t) u w h k agree = tt
+  together same s Value u w h k agree = agree
+  together same s Folded u w h k agree = agree
+  together same s (Fixed c) u w h k agree = h ∙ sym k
+
+module _ (G : NumberedGraph) (Q : Shape) (same : ℕ → ℕ → Bool) (a b : ℕ) (v w : List ℕ) (x : IsMatch G Q same a b v w) where
+  here : (s : ℕ) → PairedHere G Q s (slice_index v s) (slice_index w s)
+  here s slot at =
+      let left = x.left.kinds s slot at in
+      let right = x.right.kinds s slot at in
+      (left, right, together G same s slot (slice_index v s) (slice_index w s) left right (x.coincide s slot at))
+
+  -- the images of each slot are paired there to every depth
+  images : (d s : ℕ) → ArePaired G Q d s (slice_index v s) (slice_index w s)
+  images zero s = here s
+  images (suc d) s = (here s, forth (images d), back (images d))
+    where
+      forth : ((t : ℕ) → ArePaired G Q d t (slice_index v t) (slice_index w t)) →
+          All (λ e. e.from ≡ s → (u' w' : ℕ) × ArePaired G Q d e.to u' w' × HasRow G (slice_index v s) e.pred u' × HasRow G (slice_index w s) e.pred w') Q.edges
+      forth before k e lt at =
+          let f : Edge = get_or Q.edges k e in (
+            slice_index v f.to,
+            slice_index w f.to,
+            before f.to,
+            subst (λ i. HasRow G (slice_index v i) f.pred (slice_index v f.to)) at (x.left.edges k e lt),
+            subst (λ i. HasRow G (slice_index w i) f.pred (slice_index w f.to)) at (x.right.edges k e lt),
+          )
+
+      back : ((t : ℕ) → ArePaired G Q d t (slice_index v t) (slice_index w t)) →
+          All (λ e. e.to ≡ s → (u' w' : ℕ) × ArePaired G Q d e.from u' w' × HasRow G u' e.pred (slice_index v s) × HasRow G w' e.pred (slice_index w s)) Q.edges
+      back before k e lt at =
+          let f : Edge = get_or Q.edges k e in (
+            slice_index v f.from,
+            slice_index w f.from,
+            before f.from,
+            subst (λ i. HasRow G (slice_index v f.from) f.pred (slice_index v i)) at (x.left.edges k e lt),
+            subst (λ i. HasRow G (slice_index w f.from) f.pred (slice_index w i)) at (x.right.edges k e lt),
+          )
+
+  match_under : (t : ℕ) → slice_get Q.slots 0 ≡ Some (Entity t) → ArePairedUnder G Q a b
+  match_under t first = record {
+    left = (Entity t, first, subst (FitsSlot G (Entity t)) x.at_a (x.left.kinds 0 (Entity t) first));
+    right = (Entity t, first, subst (FitsSlot G (Entity t)) x.at_b (x.right.kinds 0 (Entity t) first));
+    paired = subst (λ n. ArePaired G Q 2 0 n b) x.at_a (subst (ArePaired G Q 2 0 (slice_index v 0)) x.at_b (images 2 0));
+  }
+
+module _ (G : NumberedGraph) (Q : Shape) (a b t : ℕ) (first : slice_get Q.slots 0 ≡ Some (Entity t)) where
+  -- what does not pair the two is idle
+  pub unpaired_out : ¬ (ArePairedUnder G Q a b) → IsRuledOut G Q a b
+  unpaired_out none = record { unpaired = none; idle = λ same v w x. none (match_under G Q same a b v w x t first) }
+
+  -- a key whose type one of the two lacks is ruled out
+  pub missing_out : ¬ (FitsSlot G (Entity t) a × FitsSlot G (Entity t) b) → IsRuledOut G Q a b
+  missing_out lacks = unpaired_out (λ h. lacks (
+    subst (λ (s : Slot). FitsSlot G s a) (some_same h.left.0 (Entity t) (sym h.left.1 ∙ first)) h.left.2,
+    subst (λ (s : Slot). FitsSlot G s b) (some_same h.right.0 (Entity t) (sym h.right.1 ∙ first)) h.right.2,
+  ))
+
+-- ---- key by key
+
+-- what holds of the keys before one, and of that one
+pub one_more : (K : List Shape) (P : Shape → Type 0) (i : ℕ) (Q : Shape) → slice_get K i ≡ Some Q
+    → ((k : ℕ) (R : Shape) → k < i → slice_get K k ≡ Some R → P R) → P Q
+    → (k : ℕ) (R : Shape) → k < i + 1 → slice_get K k ≡ Some R → P R
+one_more K P i Q here before p k R lt at = elim (cases_eq k i) [
+  | inl e ↦ subst P (some_same Q R (sym here ∙ ap (slice_get K) (sym e) ∙ at)) p
+  | inr ne ↦ before k R (omega arith) at
+]
+
+-- what holds of the keys behind one, and of that one
+pub one_less : (K : List Shape) (P : Shape → Type 0) (i : ℕ) (Q : Shape) → slice_get K i ≡ Some Q
+    → ((k : ℕ) (R : Shape) → i + 1 ≤ k → slice_get K k ≡ Some R → P R) → P Q
+    → (k : ℕ) (R : Shape) → i ≤ k → slice_get K k ≡ Some R → P R
+one_less K P i Q here behind p k R le at = elim (cases_eq k i) [
+  | inl e ↦ subst P (some_same Q R (sym here ∙ ap (slice_get K) (sym e) ∙ at)) p
+  | inr ne ↦ behind k R (omega arith) at
+]
