@@ -8,11 +8,12 @@ use Rattle.chase_laws.specs.Core.{Task, IsTask, IsSound, name_count}
 use Rattle.list_pool.specs.Pool.{list_at, without}
 use Rattle.class_book.specs.Classes.{Classes}
 use Rattle.near_lists.specs.Turning.{HasEnd}
+use Rattle.paired_search.specs.declared.key_range.KeyRange.{KeyRange}
 use Rattle.paired_search.specs.Plans.{ArePlans}
 use Rattle.chase_core.specs.declared.ticket.Settled.{Settled}
 use Rattle.chase_core.specs.declared.ticket.Settled.TheVariants as settled
 use Rattle.chase_core.specs.Table.{Standings, IsReadyList}
-use Rattle.chase_core.specs.Setup.{Preparation, IsNearTo, IsWidest}
+use Rattle.chase_core.specs.Setup.{Preparation, AreRangesFor, IsNearTo, IsWidest}
 use Rattle.chase_core.specs.Running.{Running, state_in, journal_room}
 use Rattle.chase_core.specs.Settling.{IsFirstOvertaken, GoesLast}
 
@@ -35,7 +36,7 @@ pub record AreEnds (T : Task) (lists : List (List ℕ)) : Type 0 where
   pub exact : (e p : ℕ) → e < name_count T → Contains (list_at lists e) p ↔ HasEnd T.pairs p e
 
 -- what each setup keeps
-pub record IsPreparation (S : Preparation) (ends : List (List ℕ)) : Type 0 where
+pub record IsPreparation (S : Preparation) (keys : List KeyRange) (ends : List (List ℕ)) : Type 0 where
   pub task : IsTask S.task
   pub ascend : AreAscending S.task.pairs
   pub few_patterns : length S.task.patterns < 2 ^ 32
@@ -43,6 +44,7 @@ pub record IsPreparation (S : Preparation) (ends : List (List ℕ)) : Type 0 whe
   pub plans : ArePlans S.task.patterns S.plans
   pub near : IsNearTo S.task S.near.near
   pub widest : IsWidest S
+  pub ranges : AreRangesFor S.task.graph S.task.patterns S.task.pairs keys
   pub by_end : AreEnds S.task ends
 
 -- what a chase keeps besides the Ready list, which its table keeps: this, and room to set all pairs aside

@@ -1,10 +1,14 @@
 -- What a chase works on, prepared (this project's own).
-use Rattle.std.specs.Prelude.{List, ℕ, All, Any, Contains, length, min, ◌≡◌, ◌<◌, ◌≤◌, ◌+◌, ◌⊎◌, ◌↔◌}
+use Rattle.std.specs.Prelude.{List, ℕ, Some, All, Any, Contains, length, min, slice_get, ◌≡◌, ◌<◌, ◌≤◌, ◌+◌, ◌⊎◌, ◌↔◌}
+use Rattle.chase_laws.specs.Shape.{Shape}
+use Rattle.chase_laws.specs.Graph.{NumberedGraph}
 use Rattle.chase_laws.specs.Near.{IsNear}
 use Rattle.chase_laws.specs.Core.{Task, name_count}
 use Rattle.key_plan.specs.Route.{Route}
 use Rattle.list_pool.specs.Pool.{list_at}
 use Rattle.near_lists.specs.Neighbourhoods.{Neighbourhoods}
+use Rattle.paired_search.specs.declared.key_range.KeyRange.{KeyRange}
+use Rattle.paired_search.specs.KeyRange.{AreIdleOutside}
 
 -- a task, the plan of each key, what is near to each name, and a room that suffices for the view of any pair
 pub record Preparation : Type 0 where
@@ -27,6 +31,13 @@ pub record IsWidest (S : Preparation) : Type 0 where
   pub most : ℕ
   pub is_most : IsMost S.near.near S.task.pairs most
   pub least : S.widest ≡ min most (name_count S.task)
+
+-- Ranges of keys for pairs, by the pairs' places: each key outside of a pair's range is idle at it. A pair without a range may
+-- be identified by any key.
+abbrev pub AreRangesFor : NumberedGraph → List Shape → List (ℕ × ℕ) → List KeyRange → Type 0
+AreRangesFor G K pairs ranges =
+    (p : ℕ) (pair : ℕ × ℕ) (range : KeyRange) → slice_get pairs p ≡ Some pair → slice_get ranges p ≡ Some range →
+    AreIdleOutside G K range pair.0 pair.1
 
 -- the near lists are those of the task
 pub record IsNearTo (T : Task) (near : List (List ℕ)) : Type 0 where

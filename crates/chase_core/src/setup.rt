@@ -5,21 +5,24 @@ ghost use Rattle.std.specs.List.Sorted.{IsStrictlyIncreasing};
 ghost use Rattle.chase_laws.specs.Candidate.{AreAscending};
 ghost use Rattle.chase_laws.specs.Chase.{IsAble};
 ghost use Rattle.chase_laws.specs.Core.{IsTask, name_count};
+ghost use Rattle.paired_search.specs.KeyRange.{AreIdleOutside};
 ghost use Rattle.paired_search.specs.Plans.{ArePlans};
 ghost use Rattle.near_lists.specs.Turning.{HasEnd};
-ghost use Rattle.chase_core.specs.Setup.{IsMost, IsNearTo, IsWidest};
+ghost use Rattle.chase_core.specs.Setup.{AreRangesFor, IsMost, IsNearTo, IsWidest};
 
+use crate::Ticket;
 use chase_laws::{Pattern, all_valid};
 use gk_base::NoMemory;
 use key_plan::Plan;
 use near_lists::{Near, Rows, pairs_by_end};
-use paired_search::plan_all;
+use paired_search::{KeyRange, plan_all};
 use std::alloc::Global;
 use std::marker::Model;
 use typed_graph::Graph;
 
 /// A graph, keys, and the pairs of names that a chase searches, with what is near to each name. The pairs have
-/// numbers by their places. Contracts see the three as a task, the keys' plans, what is near, and the widest view.
+/// numbers by their places. Contracts see the three as a task, the keys' plans, what is near, and the widest view. Which keys
+/// are searched for a pair they do not see: it changes no answer.
 #[derive(Drop)]
 pub struct Setup {
     graph: Graph,
@@ -27,6 +30,8 @@ pub struct Setup {
     plans: Vec<Plan>,
     near: Near,
     pairs: Vec<(u32, u32)>,
+    /// The keys that may identify the pair at each place; any may where this ends before.
+    keys: Vec<KeyRange>,
     /// The numbers of each name's pairs.
     ends: Rows,
     widest: u32,
@@ -42,7 +47,7 @@ impl Model for Setup {
 
     ghost view = { preparation_of };
 
-    ghost invariant = { λ s. IsPreparation (preparation_of s) s.ends };
+    ghost invariant = { λ s. IsPreparation (preparation_of s) s.keys.items s.ends };
 }
 
 /// The greatest number of names near to the ends of one of the pairs.
@@ -75,6 +80,26 @@ impl Setup {
         requires able { (a b : ℕ) → IsAble graph patterns.items a b → Contains pairs.items (a, b) }
         ensures { IfOk result (λ s. s.task ≡ record { graph = graph; patterns = patterns.items; pairs = pairs.items }) }
     {
+        Setup::with_keys(alloc, graph, patterns, pairs, Vec::new(alloc))
+    }
+
+    /// Prepares a chase as `new` does, in which only the keys of its range are searched for a pair: those outside of it can't
+    /// identify the pair, whatever is the same. For a pair without a range all keys are searched.
+    pub fn with_keys(
+        alloc: Global,
+        graph: Graph,
+        patterns: Vec<Pattern>,
+        pairs: Vec<(u32, u32)>,
+        keys: Vec<KeyRange>,
+    ) -> Result<Setup, NoMemory>
+        requires few_patterns { length patterns.items < 2 ^ 32 }
+        requires few_pairs { length pairs.items < 2 ^ 32 }
+        requires ascend { AreAscending pairs.items }
+        requires named { All (λ p. (p.0 < p.1) × (p.1 < length graph.literal)) pairs.items }
+        requires able { (a b : ℕ) → IsAble graph patterns.items a b → Contains pairs.items (a, b) }
+        requires keys { AreRangesFor graph patterns.items pairs.items keys.items }
+        ensures { IfOk result (λ s. s.task ≡ record { graph = graph; patterns = patterns.items; pairs = pairs.items }) }
+    {
         let names = graph.names();
         all_valid(&patterns);
         let plans = plan_all(alloc, &patterns)?;
@@ -87,6 +112,7 @@ impl Setup {
             plans,
             near,
             pairs,
+            keys,
             ends,
             widest,
         })
@@ -151,6 +177,21 @@ impl Setup {
         ensures exact { IsWidest self.now }
     {
         self.widest
+    }
+
+    /// The keys that are searched for a pair: those of its range, and all where the ticket is not that of a pair with a range.
+    pub(crate) fn keys_for(&self, ticket: &Ticket) -> KeyRange
+        ensures { AreIdleOutside self.now.task.graph self.now.task.patterns result ticket.now.a ticket.now.b }
+    {
+        let pair = ticket.pair as usize;
+        if pair >= self.keys.len() || pair >= self.pairs.len() {
+            return KeyRange::ALL;
+        }
+        let ends = self.pairs[pair];
+        if ends.0 != ticket.a || ends.1 != ticket.b {
+            return KeyRange::ALL;
+        }
+        self.keys[pair]
     }
 
     /// The keys' patterns, for a setup over another graph. It gives up all else, and takes no memory.

@@ -10,14 +10,31 @@ ghost use Rattle.chase_core.specs.Present.{same_by_labels};
 use crate::present::PresentLabels;
 use crate::{Outcome, Setup, Ticket};
 use class_book::Book;
-use paired_search::{Finding, View, search};
+use paired_search::{Finding, Sameness, View, search_within};
+
+/// Searches for a pair by what is the same, among the keys that may identify it.
+fn search_for<S: Sameness>(setup: &Setup, ticket: &Ticket, view: &S) -> Option<Finding>
+    ensures found { IfSome result (λ f. (Q : Shape) × (slice_get setup.now.task.patterns f.key ≡ Some Q)
+        × IsMatch setup.now.task.graph Q (S.are_same view.now) ticket.now.a ticket.now.b f.left f.right) }
+    ensures none { IfNone result (¬ (Matches setup.now.task.graph setup.now.task.patterns (S.are_same view.now) ticket.now.a ticket.now.b)) }
+{
+    let keys = setup.keys_for(ticket);
+    search_within(
+        setup.graph(),
+        setup.patterns(),
+        setup.plans(),
+        keys,
+        ticket.a,
+        ticket.b,
+        view,
+    )
+}
 
 /// Searches for a pair by a view of what is near to its ends.
 pub fn outcome_of(setup: &Setup, ticket: &Ticket, view: &View) -> Outcome
     ensures { IsFoundBy setup.now.task ticket.now view.now.pairs result }
 {
-    let Ticket { a, b, .. } = *ticket;
-    match search(setup.graph(), setup.patterns(), setup.plans(), a, b, view) {
+    match search_for(setup, ticket, view) {
         Some(finding) => Outcome::Found(finding),
         None => Outcome::Missed,
     }
@@ -30,8 +47,6 @@ pub fn find_present(setup: &Setup, book: &Book, ticket: Ticket) -> Option<Findin
         × IsMatch setup.now.task.graph Q (same_by_labels book.now.labels) ticket.a ticket.b f.left f.right) }
     ensures none { IfNone result (¬ (Matches setup.now.task.graph setup.now.task.patterns (same_by_labels book.now.labels) ticket.a ticket.b)) }
 {
-    let graph = setup.graph();
-    let labels = PresentLabels::new(book, graph.names());
-    let Ticket { a, b, .. } = ticket;
-    search(graph, setup.patterns(), setup.plans(), a, b, &labels)
+    let labels = PresentLabels::new(book, setup.graph().names());
+    search_for(setup, &ticket, &labels)
 }

@@ -1,7 +1,7 @@
 -- The parts are those of the task.
 use Rattle.std.proofs.Common.{subst, ◌<◌, ◌∙◌, ap, sym, min}
 use Rattle.chase_core.specs.Setup.{IsMost}
-use Rattle.chase_core.proofs.setup.Setup.new.Goals as goal
+use Rattle.chase_core.proofs.setup.Setup.with_keys.Goals as goal
 
 pub invariant_of-result : goal.invariant_of-result
 invariant_of-result c =
@@ -19,6 +19,7 @@ invariant_of-result c =
       few_pairs = c.requires.few_pairs;
       plans = rw c.deref-2.ensures.value at c.in_ok-plans.ensures;
       near = record { one_each = c.in_ok-near.ensures.count; exact = rw c.deref-3.ensures.value at c.in_ok-near.ensures.near };
+      ranges = c.requires.keys;
       widest = record {
         most = c.most_near.result;
         is_most = subst (λ ps. IsMost c.in_ok-near.near.near ps c.most_near.result) c.deref-5.ensures.value c.most_near.ensures;
