@@ -1,10 +1,12 @@
 -- Keys one by one, and the type that a key designates.
-use Rattle.std.proofs.Common.{List, ℕ, Bool, Some, slice_get, ◌≡◌, ◌<◌, ◌+◌, ◌∙◌, inl, inr, ap, sym, subst, arith}
-use Rattle.std.proofs.lemmas.Bool.{cases_eq}
+use Rattle.std.proofs.Common.{List, ℕ, Bool, Some, slice_get, ◌≡◌, ◌<◌, ◌+◌, ◌⊎◌, ◌∙◌, inl, inr, ap, sym, subst, arith}
+use Rattle.std.proofs.lemmas.Bool.{cases_eq, cases_lt}
 use Rattle.chase_laws.specs.declared.pattern.Slot.TheVariants.{Entity}
 use Rattle.chase_laws.specs.Shape.{Shape}
 use Rattle.chase_laws.specs.Graph.{NumberedGraph, HasType}
 use Rattle.chase_laws.specs.Valuation.{IsMatch}
+use Rattle.paired_search.specs.declared.key_range.KeyRange.{KeyRange}
+use Rattle.paired_search.specs.KeyRange.{IsWithin}
 use Rattle.paired_search.proofs.PartLaws.{some_same}
 
 -- none of the keys up to one more, of those that are asked, has two such lists
@@ -23,3 +25,19 @@ match_types G Q same a b t v w first m = (
   subst (λ n. HasType G n t) m.at_a (m.left.kinds 0 (Entity t) first).1,
   subst (λ n. HasType G n t) m.at_b (m.right.kinds 0 (Entity t) first).1,
 )
+
+-- a key is in a range or outside of it
+pub within_or_outside : (range : KeyRange) (key : ℕ) → IsWithin range key ⊎ ¬ (IsWithin range key)
+within_or_outside range key = elim (cases_lt key range.first) [
+  | inl before ↦ inr (λ within. absurd (let from = within.0 in omega arith))
+  | inr from ↦ elim (cases_eq range.end 255) [
+    | inl no_end ↦ inl (from, inl no_end)
+    | inr told ↦ elim (cases_lt key range.end) [
+      | inl lt ↦ inl (from, inr lt)
+      | inr past ↦ inr (λ within. elim within.1 [
+        | inl no_end ↦ told no_end
+        | inr lt ↦ absurd (omega arith)
+      ])
+    ]
+  ]
+]

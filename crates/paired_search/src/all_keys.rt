@@ -110,10 +110,10 @@ fn have_type(graph: &Graph, t: u32, a: u32, b: u32) -> bool
     graph.has_type(a, t) && graph.has_type(b, t)
 }
 
-/// Looks among the keys of a range for one with two valuations at `a` and `b` that coincide up to the names that are the same by
-/// the view, and gives the first that has some. None comes exactly where no key of the range has any, whatever numbers `a` and
-/// `b` are. The plan at each place has to be that of the pattern there. It takes no memory. Of keys behind one another that
-/// designate one type, the type is tested once where it is missing.
+/// Looks among the keys of a range for one with two valuations at `a` and `b` that coincide up to the names that are the
+/// same by the view, and gives the first that has some. None comes exactly where no key of the range has any, whatever
+/// numbers `a` and `b` are. The plan at each place has to be that of the pattern there. It takes no memory. Of keys behind
+/// one another that designate one type, the type is tested once where it is missing.
 pub fn search_within<S: Sameness>(
     graph: &Graph,
     patterns: &[Pattern],
