@@ -86,7 +86,7 @@ pub fn prepared<R: Threads + Sync + Abort>(
         alike: &[],
     };
     let made = match (table.build(alloc), patterns_of(alloc, keys())) {
-        (Ok(graph), Ok(keys)) => prepare(rt, alloc, graph, keys, 1_000_000),
+        (Ok(graph), Ok(keys)) => prepare(rt, alloc, 4, graph, keys, 1_000_000),
         _ => panic!(rt; "no graph and keys"),
     };
     match made {

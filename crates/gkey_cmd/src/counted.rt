@@ -44,7 +44,7 @@ fn line_of<Rt: Threads + Wait + Sync, G: Gate>(
     let numbered = number(rt, alloc, workers, rows, keys)?;
     let _names = numbered.graph.names();
     let triples = numbered.graph.rows().len() as u64;
-    let prepared = prepare(rt, alloc, numbered.graph, numbered.patterns, limit)?;
+    let prepared = prepare(rt, alloc, workers, numbered.graph, numbered.patterns, limit)?;
     let matched = chase_setup(rt, alloc, &prepared.setup, workers, gate)?;
     let counts = count_classes(alloc, &matched.labels)?;
     let line = demo_line(alloc, triples, prepared.seeded, counts)?;

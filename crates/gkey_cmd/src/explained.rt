@@ -133,7 +133,7 @@ fn reason<Rt: Threads + Wait + Sync, G: Gate>(
         graph,
         patterns,
     } = numbered;
-    let prepared = prepare(rt, alloc, graph, patterns, limit)?;
+    let prepared = prepare(rt, alloc, workers, graph, patterns, limit)?;
     let setup = &prepared.setup;
     let matched = chase_setup(rt, alloc, setup, workers, gate)?;
     let text = pair_text(alloc, setup, &matched.journal, &names, keys, a, b)?;

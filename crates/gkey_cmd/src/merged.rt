@@ -42,7 +42,7 @@ fn merged_text<Rt: Threads + Wait + Sync, G: Gate>(
     law_rows();
     law_entities();
     let numbered = number(rt, alloc, workers, rows, keys)?;
-    let prepared = prepare(rt, alloc, numbered.graph, numbered.patterns, limit)?;
+    let prepared = prepare(rt, alloc, workers, numbered.graph, numbered.patterns, limit)?;
     let setup = &prepared.setup;
     let matched = chase_setup(rt, alloc, setup, workers, gate)?;
     let graph = setup.graph();

@@ -86,7 +86,7 @@ fn proof_of<Rt: Threads + Wait + Sync, G: Gate>(
     law_chase();
     law_proof();
     let numbered = number(rt, alloc, workers, rows, keys)?;
-    let prepared = prepare(rt, alloc, numbered.graph, numbered.patterns, limit)?;
+    let prepared = prepare(rt, alloc, workers, numbered.graph, numbered.patterns, limit)?;
     let setup = &prepared.setup;
     let matched = chase_setup(rt, alloc, setup, workers, gate)?;
     let text = journal_text(alloc, setup, &matched.journal, &numbered.names, keys.keys())?;

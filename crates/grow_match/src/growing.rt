@@ -49,7 +49,7 @@ fn first_chase<R: Threads + Wait + Sync, G: Gate>(
     ensures patterns { IfOk result (λ r. r.1.items ≡ patterns.items) }
     ensures stop { IfErr result (IsRightStop graph patterns.items limit) }
 {
-    let Prepared { setup, .. } = prepare(rt, alloc, graph, patterns, limit)?;
+    let Prepared { setup, .. } = prepare(rt, alloc, workers, graph, patterns, limit)?;
     let Matched { journal, .. } = chase_setup(rt, alloc, &setup, workers, gate)?;
     Ok((journal, setup.into_patterns()))
 }
@@ -102,7 +102,7 @@ pub fn grow<R: Threads + Wait + Sync, G: Gate>(
 {
     law_rows();
     let (old, patterns) = first_chase(rt, alloc, first, patterns, limit, workers, gate)?;
-    let Prepared { setup, .. } = prepare(rt, alloc, both, patterns, limit)?;
+    let Prepared { setup, .. } = prepare(rt, alloc, workers, both, patterns, limit)?;
     let chase = resumed(alloc, &setup, &old)?;
     let now = chase_on(rt, alloc, chase, workers, gate)?;
     Ok(Grown { old, now })
