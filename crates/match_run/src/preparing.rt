@@ -8,7 +8,7 @@ ghost use Rattle.pair_seed.specs.Stop.{IsRightStop};
 
 use chase_core::Setup;
 use chase_laws::Pattern;
-use pair_filter::keep;
+use pair_filter::keep_with_keys;
 use pair_seed::{SeedStop, seed};
 use std::alloc::Global;
 use std::thread::Threads;
@@ -22,12 +22,14 @@ pub struct Prepared {
     pub seeded: u64,
 }
 
-/// Prepares a chase of a graph under keys, over those of the candidate pairs that some key pairs to depth 2.
+/// Prepares a chase of a graph under keys, over those of the candidate pairs that some key pairs to depth 2. `threads` says how
+/// many threads may be used, the caller's among them; the answer is the same.
 ///
 /// `TooManyPairs` comes exactly where there are more candidate pairs than `limit`, and `NoMemory` where memory ran out.
 pub fn prepare<R: Threads + Sync>(
     rt: &R,
     alloc: Global,
+    threads: u32,
     graph: Graph,
     patterns: Vec<Pattern>,
     limit: u64,
@@ -43,7 +45,7 @@ pub fn prepare<R: Threads + Sync>(
 {
     let candidates = seed(alloc, &graph, &patterns, limit)?;
     let seeded = candidates.len() as u64;
-    let pairs = keep(rt, alloc, &graph, &patterns, &candidates)?;
-    let setup = Setup::new(alloc, graph, patterns, pairs)?;
+    let kept = keep_with_keys(rt, alloc, threads, &graph, &patterns, &candidates)?;
+    let setup = Setup::with_keys(alloc, graph, patterns, kept.pairs, kept.keys)?;
     Ok(Prepared { setup, seeded })
 }

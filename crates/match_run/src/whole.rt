@@ -16,7 +16,7 @@ use steal_pool::Gate;
 use typed_graph::Graph;
 
 /// One label for each name, equal exactly where the chase makes two names the same. At most so many workers chase, 1 to
-/// 64, each in a thread of its own, and each passes the gate before each search.
+/// 64, each in a thread of its own, and each passes the gate before each search. No more threads filter the candidate pairs.
 ///
 /// `TooManyPairs` comes exactly where there are more candidate pairs than `limit`, and `NoMemory` where memory ran out.
 pub fn classes<R: Threads + Wait + Sync, G: Gate>(
@@ -35,7 +35,7 @@ pub fn classes<R: Threads + Wait + Sync, G: Gate>(
     ensures no_more { OnOk result (¬ (HasMoreCandidates graph patterns.items limit)) }
     ensures stop { IfErr result (IsRightStop graph patterns.items limit) }
 {
-    let prepared = prepare(rt, alloc, graph, patterns, limit)?;
+    let prepared = prepare(rt, alloc, workers, graph, patterns, limit)?;
     let matched = chase_setup(rt, alloc, &prepared.setup, workers, gate)?;
     Ok(matched.labels)
 }
