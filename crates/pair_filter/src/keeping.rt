@@ -64,8 +64,8 @@ fn with_keys(
     Some((pair, keys))
 }
 
-/// The same, where the pairs are cut into pieces, no more than there may be threads, a thread filters each, and what is kept of
-/// each is joined in order. Where a thread can't be started the caller does its work.
+/// The same, where the pairs are cut into pieces, no more than there may be threads, a thread filters each, and what is
+/// kept of each is joined in order. Where a thread can't be started the caller does its work.
 fn keep_in_pieces<R: Threads + Sync>(
     rt: &R,
     alloc: Global,
@@ -111,9 +111,9 @@ fn select<R: Threads + Sync>(
     Ok(kept)
 }
 
-/// Of some pairs, in their order, exactly those that `keep` keeps, and for each of them which keys may identify it: a key outside
-/// of its range does not, whatever else is the same, and the range begins and ends with a key that pairs the two, where it tells
-/// these places. `threads` says how many threads may be used, the caller's among them.
+/// Of some pairs, in their order, exactly those that `keep` keeps, and for each of them which keys may identify it: a key
+/// outside of its range does not, whatever else is the same, and the range begins and ends with a key that pairs the two,
+/// where it tells these places. `threads` says how many threads may be used, the caller's among them.
 ///
 /// Fails only for want of memory. The answer is the same whatever the number of threads.
 pub fn keep_with_keys<R: Threads + Sync>(

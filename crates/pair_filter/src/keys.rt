@@ -34,8 +34,8 @@ fn is_kept_by(graph: &Graph, pattern: &Pattern, a: u32, b: u32) -> bool
     are_paired_along(graph, pattern, None, DEPTH, 0, a, b)
 }
 
-/// Whether a key pairs two names to depth 2. Where it does not, no two valuations of it at them coincide. `missing` is a type that
-/// one of the two is known to lack: of keys behind one another that designate one type, it is tested once.
+/// Whether a key pairs two names to depth 2. Where it does not, no two valuations of it at them coincide. `missing` is a
+/// type that one of the two is known to lack: of keys behind one another that designate one type, it is tested once.
 fn are_paired_by(
     graph: &Graph,
     pattern: &Pattern,
@@ -103,7 +103,8 @@ fn range_from(first: usize, end: usize) -> KeyRange
     }
 }
 
-/// The keys that may identify two names: a range from the first that pairs them to depth 2 to the last. None where none does.
+/// The keys that may identify two names: a range from the first that pairs them to depth 2 to the last. None where no key
+/// does.
 pub(crate) fn keys_of(graph: &Graph, patterns: &[Pattern], pair: (u32, u32)) -> Option<KeyRange>
     ensures paired { IsSome result ↔ ArePairedBy graph.now patterns.now 2 pair.0 pair.1 }
     ensures keys { IfSome result (λ range. AreKeysOf graph.now patterns.now range pair.0 pair.1) }

@@ -1,8 +1,8 @@
 //! Rules out candidate pairs without a search. `keep` keeps those that some key pairs to depth 2: the two names are fit for
 //! its first slot, and as far as two of its edges lead, the graph has for each edge rows whose ends can go together. Every
-//! pair that a step can identify is among them. `keep_with_keys` also tells of each which keys may identify it. The pairs are
-//! cut into pieces, each piece is filtered in a thread of its own, and what is kept of each is joined in order; so the answer is
-//! the same whatever the number of threads.
+//! pair that a step can identify is among them. `keep_with_keys` also tells of each which keys may identify it. The pairs
+//! are cut into pieces, each piece is filtered in a thread of its own, and what is kept of each is joined in order; so the
+//! answer is the same whatever the number of threads.
 //!
 //! - `keeping`: which pairs are kept
 //! - `keys`: which keys may identify two names
