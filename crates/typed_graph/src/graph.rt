@@ -119,8 +119,9 @@ impl Graph {
     }
 
     /// Does what `build` does by so many threads, the caller's among them. With 2 or more, one order of the rows is made in a
-    /// new thread, unless there are few rows; where none can be started, the caller's makes both. The graph is the same.
-    pub fn build_in_threads<R: Threads>(
+    /// new thread and sorted in several, unless there are few rows; where none can be started, the caller's makes both. The graph
+    /// is the same.
+    pub fn build_in_threads<R: Threads + Sync>(
         rt: &R,
         alloc: Global,
         threads: u32,

@@ -6,10 +6,11 @@ ghost use Rattle.typed_graph.specs.Table.{TableHas};
 ghost use Rattle.typed_graph.specs.Blocks.{RowsRise, IsStart, AreRowStarts};
 
 use crate::ascending::{cut, lower, upper};
-use crate::rows::sorted;
+use crate::rows::{sorted, sorted_in_threads};
 use gk_base::NoMemory;
 use std::alloc::Global;
 use std::marker::Model;
+use std::thread::Threads;
 
 /// Rows of three numbers in ascending order, found by their first two. Contracts see it as a table of columns, and ask
 /// only whether a row stands there.
@@ -39,6 +40,20 @@ impl Index {
         ensures { IfOk result (λ t. (n p c : ℕ) → TableHas t n p c ↔ Contains rows.items (n ∷ p ∷ c ∷ [])) }
     {
         let rows = sorted(rows);
+        Index::from_sorted(alloc, &rows, names)
+    }
+
+    /// Does what `build` does, and sorts in several threads.
+    pub(crate) fn build_in_threads<R: Threads + Sync>(
+        rt: &R,
+        alloc: Global,
+        rows: Vec<[u32; 3]>,
+        names: u32,
+    ) -> Result<Index, NoMemory>
+        requires { All (λ row. slice_index row 0 < names) rows.items }
+        ensures { IfOk result (λ t. (n p c : ℕ) → TableHas t n p c ↔ Contains rows.items (n ∷ p ∷ c ∷ [])) }
+    {
+        let rows = sorted_in_threads(rt, rows);
         Index::from_sorted(alloc, &rows, names)
     }
 

@@ -50,8 +50,8 @@ pub(crate) fn sort_forward(
     })
 }
 
-/// Both orders at once: the index by objects is made in a new thread, if one can be started.
-pub(crate) fn both_orders<R: Threads>(
+/// Both orders at once: the index by objects is made in a new thread, if one can be started, and sorted in several.
+pub(crate) fn both_orders<R: Threads + Sync>(
     rt: &R,
     alloc: Global,
     rows: Vec<[u32; 3]>,
@@ -73,7 +73,7 @@ pub(crate) fn both_orders<R: Threads>(
         move || -> Result<Index, NoMemory>
             requires { All (λ row. slice_index row 0 < names) other_way.items }
             ensures { IfOk result (λ t. (n p c : ℕ) → TableHas t n p c ↔ Contains other_way.items (n ∷ p ∷ c ∷ [])) }
-        { Index::build(alloc, other_way, names) },
+        { Index::build_in_threads(rt, alloc, other_way, names) },
         move || -> Result<SortedRows, NoMemory>
             requires { All (λ row. All (λ n. n < names) row) rows.items }
             ensures ascending { IfOk result (λ o. IsStrictlySortedBy (slice_cmp nat_cmp) o.rows.items) }

@@ -3,11 +3,13 @@
 ghost use Rattle.std.specs.Prelude.{◌≡◌, List, ◌↔◌, ℕ, All, Contains, IfOk, length, map};
 ghost use Rattle.std.specs.Ordering.{nat_cmp};
 ghost use Rattle.std.specs.Cmp.Lexicographic.{slice_cmp};
-ghost use Rattle.std.specs.List.Sorted.{IsStrictlySortedBy};
+ghost use Rattle.std.specs.List.Sorted.{IsPermutation, IsSorted, IsStrictlySortedBy};
 ghost use Rattle.typed_graph.specs.Blocks.{turned};
 
 use gk_base::NoMemory;
+use rayon::prelude::*;
 use std::alloc::Global;
+use std::thread::Threads;
 
 /// A fact for proofs, with an empty body: each row has three numbers.
 pub(crate) fn three_each(rows: &[[u32; 3]])
@@ -25,6 +27,28 @@ pub(crate) fn sorted(rows: Vec<[u32; 3]>) -> Vec<[u32; 3]>
     three_each(&rows);
     let mut rows = rows;
     rows.sort_unstable_by_key(|row| (row[0], row[1], row[2]));
+    rows.dedup();
+    rows
+}
+
+/// Sorts rows in several threads.
+fn sort_in_threads<R: Threads + Sync>(rt: &R, rows: &mut Vec<[u32; 3]>)
+    ensures permutation { IsPermutation rows.old.items rows.new.items }
+    ensures ascending { IsSorted (slice_cmp nat_cmp) rows.new.items }
+{
+    three_each(rows);
+    par_sort_unstable_by_key(rt, rows.as_mut_slice(), |row| (row[0], row[1], row[2]));
+}
+
+/// The rows ascending, each once, sorted in several threads.
+pub(crate) fn sorted_in_threads<R: Threads + Sync>(rt: &R, rows: Vec<[u32; 3]>) -> Vec<[u32; 3]>
+    ensures ascending { IsStrictlySortedBy (slice_cmp nat_cmp) result.items }
+    ensures three { All (λ row. length row ≡ 3) result.items }
+    ensures same { (row : List ℕ) → Contains result.items row ↔ Contains rows.items row }
+{
+    three_each(&rows);
+    let mut rows = rows;
+    sort_in_threads(rt, &mut rows);
     rows.dedup();
     rows
 }
