@@ -33,7 +33,7 @@ pub struct Growth {
 /// The graph of the first so many of these rows, the graph of all of them, and the keys' patterns, in numbers over the same
 /// names. The keys' terms that are no names yet become names behind the others. `threads` says how many threads may be used, the
 /// caller's among them; the answer is the same. Only want of memory stops it.
-pub fn number_growth<R: Threads>(
+pub fn number_growth<R: Threads + Sync>(
     rt: &R,
     alloc: Global,
     threads: u32,

@@ -113,7 +113,7 @@ pub(crate) fn alike_for(
 /// The graph of these rows and the keys' patterns, in numbers. The keys' terms that are no names yet become names behind the
 /// others. `threads` says how many threads may be used, the caller's among them; the answer is the same. Only want of memory
 /// stops it.
-pub fn number<R: Threads>(
+pub fn number<R: Threads + Sync>(
     rt: &R,
     alloc: Global,
     threads: u32,
