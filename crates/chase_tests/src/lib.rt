@@ -4,6 +4,7 @@
 //! - `lists`: lists of cells
 //! - `books`: a book of classes
 //! - `hands`: pairs in hand, and steps with them
+//! - `narrowed`: pairs for which some of the keys are searched
 //! - `plays`: chases that are played step by step, with two pairs in hand at once
 //! - `wakings`: chases whose entries wake some Missed pairs and leave others
 //! - `wholes`: whole matches
@@ -15,6 +16,8 @@ mod books;
 mod hands;
 #[cfg(test)]
 mod lists;
+#[cfg(test)]
+mod narrowed;
 #[cfg(test)]
 mod plays;
 #[cfg(test)]

@@ -13,7 +13,7 @@ use std::thread::Threads;
 use steal_pool::OpenGate;
 
 /// Whether labels are equal exactly where these numbers are.
-fn are_labels(labels: &[u32], wanted: &[u32]) -> bool {
+pub(crate) fn are_labels(labels: &[u32], wanted: &[u32]) -> bool {
     if labels.len() != wanted.len() {
         return false;
     }
@@ -51,7 +51,7 @@ fn has_classes<R: Threads + Wait + Sync + Abort>(
 fn seeded<R: Threads + Sync + Abort>(rt: &R, alloc: Global, limit: u32) -> Result<u64, u64> {
     let graph = albums().build(alloc).expect(rt, "a graph");
     let keys = patterns_of(alloc, together().keys).expect(rt, "patterns");
-    match prepare(rt, alloc, graph, keys, u64::from(limit)) {
+    match prepare(rt, alloc, 1, graph, keys, u64::from(limit)) {
         Ok(prepared) => Ok(prepared.seeded),
         Err(SeedStop::Fault(TooManyPairs { found })) => Err(found),
         Err(SeedStop::NoMemory) => Err(0),
@@ -143,7 +143,7 @@ fn next() -> &'static [PatternTable<'static>] {
 fn the_filter_comes_after_the_count(rt: HostRuntime) {
     let graph = two_pairs().build(rt.alloc()).expect(&rt, "a graph");
     let keys = patterns_of(rt.alloc(), next()).expect(&rt, "patterns");
-    let prepared = prepare(&rt, rt.alloc(), graph, keys, 2).expect(&rt, "pairs");
+    let prepared = prepare(&rt, rt.alloc(), 1, graph, keys, 2).expect(&rt, "pairs");
     assert_eq!(rt; prepared.seeded, 2);
     assert_eq!(rt; prepared.setup.pairs(), [(8, 9)].as_slice());
 }
