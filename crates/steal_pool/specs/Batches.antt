@@ -5,8 +5,10 @@ use Rattle.chase_laws.specs.declared.entry.Entry.{Entry}
 use Rattle.chase_laws.specs.Core.{Task, PairAt, ListsNear}
 use Rattle.chase_core.specs.Running.{Running}
 use Rattle.chase_core.specs.Settling.{IsFoundBy, Settles}
-use Rattle.chase_core.specs.declared.ticket.Outcome.{Outcome}
+use Rattle.chase_core.specs.declared.ticket.Ticket.{Ticket}
+use Rattle.chase_core.specs.declared.ticket.Outcome.TheVariants as outcome
 use Rattle.chase_core.specs.declared.ticket.Settled.{Settled}
+use Rattle.paired_search.specs.declared.all_keys.Finding.{Finding}
 use Rattle.label_board.specs.Seen.{SeenBoard}
 use Rattle.turn_lock.specs.declared.handles.TurnLock.{TurnLock}
 use Rattle.turn_lock.specs.Handles.{base_of, seen}
@@ -23,37 +25,51 @@ use Rattle.steal_pool.specs.CrewMembers.{IsCrewMember}
 abbrev pub pair_in : Progress → Option ℕ
 pair_in progress.Free = None
 pair_in (progress.Taken t) = Some t.pair
-pair_in (progress.Searched t found) = Some t.pair
+pair_in (progress.Missed t) = Some t.pair
+pair_in (progress.Found t) = Some t.pair
 
 -- the pair was searched, and is not settled yet
 abbrev pub IsSearched : Progress → Type 0
 IsSearched progress.Free = ⊥
 IsSearched (progress.Taken t) = ⊥
-IsSearched (progress.Searched t found) = Unit {0}
+IsSearched (progress.Missed t) = Unit {0}
+IsSearched (progress.Found t) = Unit {0}
 
 -- A pair that was taken has these ends, and the job's watcher stood even at the take. What is said of its search is what one
 -- comes to by a view of what is near to them, with the labels that the watcher has read.
 abbrev pub IsCarried : Task → List Entry → Job → Progress → Type 0
 IsCarried T seen job progress.Free = Unit {0}
 IsCarried T seen job (progress.Taken t) = PairAt T t.pair t.a t.b × IsSince seen job.watcher.since job.since
-IsCarried T seen job (progress.Searched t found) =
+IsCarried T seen job (progress.Missed t) =
     PairAt T t.pair t.a t.b × IsSince seen job.watcher.since job.since
-    × ListsNear T t.a t.b job.view.pairs × (job.watcher.read ≡ job.view.pairs) × IsFoundBy T t job.view.pairs found
+    × ListsNear T t.a t.b job.view.pairs × (job.watcher.read ≡ job.view.pairs) × IsFoundBy T t job.view.pairs outcome.Missed
+IsCarried T seen job (progress.Found t) =
+    PairAt T t.pair t.a t.b × IsSince seen job.watcher.since job.since
+    × ListsNear T t.a t.b job.view.pairs × (job.watcher.read ≡ job.view.pairs) × IsFoundBy T t job.view.pairs (outcome.Found job.finding)
 
 abbrev pub IsJob : Task → List Entry → Job → Type 0
 IsJob T seen job = IsCarried T seen job job.progress
 
 -- what was searched is settled, and nothing else changes
-abbrev pub SettlesBy : Running → List (ℕ × ℕ) → Progress → Running → Progress → Type 0
-SettlesBy old view progress.Free new after = (new ≡ old) × (after ≡ progress.Free)
-SettlesBy old view (progress.Taken t) new after = (new ≡ old) × (after ≡ progress.Taken t)
-SettlesBy old view (progress.Searched t found) new after = ((answer : Settled) × Settles old t view found answer new) × (after ≡ progress.Free)
+abbrev pub SettlesBy : Running → List (ℕ × ℕ) → Finding → Progress → Running → Progress → Type 0
+SettlesBy old view finding progress.Free new after = (new ≡ old) × (after ≡ progress.Free)
+SettlesBy old view finding (progress.Taken t) new after = (new ≡ old) × (after ≡ progress.Taken t)
+SettlesBy old view finding (progress.Missed t) new after = ((answer : Settled) × Settles old t view outcome.Missed answer new) × (after ≡ progress.Free)
+SettlesBy old view finding (progress.Found t) new after = ((answer : Settled) × Settles old t view (outcome.Found finding) answer new) × (after ≡ progress.Free)
+
+-- a pair was searched, and this is what that came to by the view
+abbrev pub ComesTo : Task → Ticket → List (ℕ × ℕ) → Finding → Progress → Type 0
+ComesTo T t view finding progress.Free = ⊥
+ComesTo T t view finding (progress.Taken u) = ⊥
+ComesTo T t view finding (progress.Missed u) = (u ≡ t) × IsFoundBy T t view outcome.Missed
+ComesTo T t view finding (progress.Found u) = (u ≡ t) × IsFoundBy T t view (outcome.Found finding)
 
 -- what was taken is searched, by its own view, and nothing else changes
-abbrev pub SearchesBy : Task → List (ℕ × ℕ) → Progress → Progress → Type 0
-SearchesBy T view progress.Free after = after ≡ progress.Free
-SearchesBy T view (progress.Taken t) after = (found : Outcome) × (after ≡ progress.Searched t found) × IsFoundBy T t view found
-SearchesBy T view (progress.Searched t found) after = after ≡ progress.Searched t found
+abbrev pub SearchesBy : Task → List (ℕ × ℕ) → Finding → Progress → Progress → Type 0
+SearchesBy T view finding progress.Free after = after ≡ progress.Free
+SearchesBy T view finding (progress.Taken t) after = ComesTo T t view finding after
+SearchesBy T view finding (progress.Missed t) after = after ≡ progress.Missed t
+SearchesBy T view finding (progress.Found t) after = after ≡ progress.Found t
 
 -- a worker that may go on, and whose jobs are good since its last turn
 pub record IsAtWork (lock : TurnLock Shared Base Entry) (on : SeenBoard) (thieves : List Thief) (m : CrewMember Shared Base Entry) : Type 0 where

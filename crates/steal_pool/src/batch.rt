@@ -2,12 +2,16 @@
 
 ghost use Rattle.std.specs.Prelude.{◌≡◌, ◌++◌, ◌<◌, ◌^◌, ◌↔◌, [], ℕ, List, All, IfSome, IsTrue, IsSome, None, Some, MatchOption, length, slice_index_or};
 ghost use Rattle.chase_laws.specs.declared.entry.Entry.{Entry};
+ghost use Rattle.chase_laws.specs.Core.{ListsNear, PairAt};
+ghost use Rattle.chase_core.specs.declared.ticket.Settled.{Settled};
+ghost use Rattle.chase_core.specs.Settling.{IsFoundBy, Settles};
 ghost use Rattle.chase_core.specs.Taking.{TakesFirst, TakesHint};
 ghost use Rattle.steal_pool.specs.declared.batch.Next.TheVariants.{End};
 ghost use Rattle.steal_pool.specs.declared.workspace.Job.{Job};
+ghost use Rattle.steal_pool.specs.declared.workspace.Progress.TheVariants.{Free};
 ghost use Rattle.steal_pool.specs.Workspaces.{IsPlace, IsOwnDeque, IsWorkspace, ReachEach, Thief};
 ghost use Rattle.label_board.specs.Seen.{SeenBoard};
-ghost use Rattle.steal_pool.specs.Bases.{board_over};
+ghost use Rattle.steal_pool.specs.Bases.{IsSince, board_over};
 ghost use Rattle.steal_pool.specs.Batches.{IsJob, IsSearched, SettlesBy, pair_in};
 
 use crate::hints::Thief;
@@ -15,7 +19,7 @@ use crate::hunt::{keep_woken, next_hint, own_hint};
 use crate::pace::Settlement;
 use crate::shared::Shared;
 use crate::workspace::{Job, Progress, Workspace};
-use chase_core::{Settled, Woken};
+use chase_core::{Outcome, Settled, Ticket, Woken};
 use label_board::Board;
 
 /// What a worker does after a turn.
@@ -43,6 +47,49 @@ fn is_wasted(settled: Settled) -> bool {
     }
 }
 
+/// Settles the pair of a job by what its search came to, and keeps what that wakes. The job has no pair then. It answers
+/// whether the search was for nothing.
+fn settle_ticket(
+    shared: &mut Shared<'_>,
+    board: &Board,
+    job: &mut Job,
+    ticket: Ticket,
+    outcome: Outcome,
+    woken: &mut Woken,
+    pending: &mut Vec<u32>,
+    count: u32,
+) -> bool
+    requires board { board_over shared.old.chase.setup shared.old.scribe.board ≡ board.now }
+    requires place { IsPlace shared.old.chase.setup.widest board.now job.old }
+    requires read { job.old.watcher.read ≡ job.old.view.pairs }
+    requires since { IsSince shared.old.chase.book.journal job.old.watcher.since job.old.since }
+    requires ends { PairAt shared.old.chase.setup.task ticket.pair ticket.a ticket.b }
+    requires near { ListsNear shared.old.chase.setup.task ticket.a ticket.b job.old.view.pairs }
+    requires found { IsFoundBy shared.old.chase.setup.task ticket job.old.view.pairs outcome }
+    requires pending { All (λ p. p < count) pending.old.items }
+    requires count { length shared.old.chase.setup.task.pairs ≡ count }
+    ensures settles { (answer : Settled) × Settles shared.old.chase ticket job.old.view.pairs outcome answer shared.new.chase }
+    ensures free { job.new.progress ≡ Free }
+    ensures setup { shared.new.chase.setup ≡ shared.old.chase.setup }
+    ensures board { shared.new.scribe.board ≡ shared.old.scribe.board }
+    ensures grows { (more : List Entry) × (shared.new.chase.book.journal ≡ shared.old.chase.book.journal ++ more) }
+    ensures pending { All (λ p. p < count) pending.new.items }
+    ensures place { IsPlace shared.old.chase.setup.widest board.now job.new }
+{
+    let settled = shared.settle(
+        board,
+        &mut job.watcher,
+        job.since,
+        ticket,
+        &job.view,
+        outcome,
+        woken,
+    );
+    keep_woken(pending, woken.list(), count);
+    job.progress = Progress::Free;
+    is_wasted(settled)
+}
+
 /// Settles a job that was searched, and keeps what that wakes. A job that was not searched stays as it is. It answers
 /// whether the search was for nothing.
 fn settle_job(
@@ -58,7 +105,7 @@ fn settle_job(
     requires job { IsJob shared.old.chase.setup.task shared.old.chase.book.journal job.old }
     requires pending { All (λ p. p < count) pending.old.items }
     requires count { length shared.old.chase.setup.task.pairs ≡ count }
-    ensures settles { SettlesBy shared.old.chase job.old.view.pairs job.old.progress shared.new.chase job.new.progress }
+    ensures settles { SettlesBy shared.old.chase job.old.view.pairs job.old.finding job.old.progress shared.new.chase job.new.progress }
     ensures settled { ¬ (IsSearched job.new.progress) }
     ensures setup { shared.new.chase.setup ≡ shared.old.chase.setup }
     ensures board { shared.new.scribe.board ≡ shared.old.scribe.board }
@@ -68,19 +115,21 @@ fn settle_job(
     ensures job { IsJob shared.new.chase.setup.task shared.new.chase.book.journal job.new }
 {
     match job.progress {
-        Progress::Searched(ticket, outcome) => {
-            let settled = shared.settle(
+        Progress::Missed(ticket) => {
+            settle_ticket(
+                shared,
                 board,
-                &mut job.watcher,
-                job.since,
+                job,
                 ticket,
-                &job.view,
-                outcome,
+                Outcome::Missed,
                 woken,
-            );
-            keep_woken(pending, woken.list(), count);
-            job.progress = Progress::Free;
-            is_wasted(settled)
+                pending,
+                count,
+            )
+        }
+        Progress::Found(ticket) => {
+            let outcome = Outcome::Found(job.finding);
+            settle_ticket(shared, board, job, ticket, outcome, woken, pending, count)
         }
         Progress::Taken(_) => false,
         Progress::Free => false,
@@ -165,7 +214,8 @@ fn fill_job(shared: &mut Shared<'_>, board: &Board, job: &mut Job, hint: Option<
     match job.progress {
         Progress::Free => take_job(shared, board, job, hint),
         Progress::Taken(_) => true,
-        Progress::Searched(_, _) => true,
+        Progress::Missed(_) => true,
+        Progress::Found(_) => true,
     }
 }
 

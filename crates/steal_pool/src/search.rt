@@ -1,10 +1,12 @@
 //! Searches by labels of the board.
 
-ghost use Rattle.std.specs.Prelude.{◌≡◌, ◌≤◌, List, IsTrue};
+ghost use Rattle.std.specs.Prelude.{◌≡◌, ◌≤◌, ℕ, List, IsTrue};
 ghost use Rattle.chase_laws.specs.declared.entry.Entry.{Entry};
 ghost use Rattle.chase_laws.specs.Core.{PairAt, ListsNear, name_count};
+ghost use Rattle.label_board.specs.Seen.{SeenBoard};
+ghost use Rattle.steal_pool.specs.Bases.{IsSince};
 ghost use Rattle.steal_pool.specs.Workspaces.{IsPlace};
-ghost use Rattle.steal_pool.specs.Batches.{IsJob, SearchesBy};
+ghost use Rattle.steal_pool.specs.Batches.{ComesTo, IsJob, SearchesBy};
 
 use crate::workspace::{Job, Progress};
 use chase_core::{Outcome, Setup, Ticket, outcome_of};
@@ -31,22 +33,40 @@ fn look(setup: &Setup, board: &Board, ticket: &Ticket, watcher: &mut Watcher, vi
     board.fill(watcher, left, right, view);
 }
 
+/// Searches for the pair of a job by its view, and notes what that comes to.
+fn search_view(setup: &Setup, job: &mut Job, ticket: Ticket)
+    requires ends { PairAt setup.now.task ticket.pair ticket.a ticket.b }
+    requires near { ListsNear setup.now.task ticket.a ticket.b job.old.view.pairs }
+    requires read { job.old.watcher.read ≡ job.old.view.pairs }
+    ensures comes { ComesTo setup.now.task ticket job.new.view.pairs job.new.finding job.new.progress }
+    ensures place { (widest : ℕ) → (on : SeenBoard) → IsPlace widest on job.old → IsPlace widest on job.new }
+    ensures job { (seen : List Entry) → IsSince seen job.old.watcher.since job.old.since → IsJob setup.now.task seen job.new }
+{
+    match outcome_of(setup, &ticket, &job.view) {
+        Outcome::Missed => job.progress = Progress::Missed(ticket),
+        Outcome::Found(finding) => {
+            job.finding = finding;
+            job.progress = Progress::Found(ticket);
+        }
+    }
+}
+
 /// Searches for the pair of a job that was taken, by labels of the board. Another job stays as it is.
 pub fn search_job(setup: &Setup, board: &Board, job: &mut Job)
     requires place { IsPlace setup.now.widest board.now job.old }
     requires names { board.now.names ≡ name_count setup.now.task }
     requires job { (seen : List Entry) × IsJob setup.now.task seen job.old }
     ensures place { IsPlace setup.now.widest board.now job.new }
-    ensures searches { SearchesBy setup.now.task job.new.view.pairs job.old.progress job.new.progress }
+    ensures searches { SearchesBy setup.now.task job.new.view.pairs job.new.finding job.old.progress job.new.progress }
     ensures job { (seen : List Entry) → IsJob setup.now.task seen job.old → IsJob setup.now.task seen job.new }
 {
     match job.progress {
         Progress::Taken(ticket) => {
             look(setup, board, &ticket, &mut job.watcher, &mut job.view);
-            let outcome = outcome_of(setup, &ticket, &job.view);
-            job.progress = Progress::Searched(ticket, outcome);
+            search_view(setup, job, ticket);
         }
-        Progress::Searched(_, _) => {}
+        Progress::Missed(_) => {}
+        Progress::Found(_) => {}
         Progress::Free => {}
     }
 }
@@ -79,12 +99,11 @@ pub fn search_again(setup: &Setup, board: &Board, job: &mut Job, spare: &mut Vie
     ensures spare { setup.now.widest ≤ spare.new.room }
     ensures job { (seen : List Entry) → IsJob setup.now.task seen job.old → IsJob setup.now.task seen job.new }
 {
-    if let Progress::Searched(ticket, Outcome::Missed) = job.progress {
+    if let Progress::Missed(ticket) = job.progress {
         look(setup, board, &ticket, &mut job.watcher, spare);
         if !are_same(&job.view, spare) {
             mem::swap(&mut job.view, spare);
-            let outcome = outcome_of(setup, &ticket, &job.view);
-            job.progress = Progress::Searched(ticket, outcome);
+            search_view(setup, job, ticket);
         }
     }
 }

@@ -2,9 +2,9 @@
 
 use crate::hints::{HintDeque, ThiefPass};
 use crate::pace::Pace;
-use chase_core::{Outcome, Ticket, Woken};
+use chase_core::{Ticket, Woken};
 use label_board::Watcher;
-use paired_search::View;
+use paired_search::{Finding, View};
 
 /// A pass for stealing from one worker's deque. The number gives it a size: what has no bytes cannot be lent for writing
 /// out of a list.
@@ -22,8 +22,10 @@ pub enum Progress {
     Free,
     /// A pair was taken for it.
     Taken(Ticket),
-    /// The pair was searched.
-    Searched(Ticket, Outcome),
+    /// The pair was searched, and no key has two valuations that coincide.
+    Missed(Ticket),
+    /// The pair was searched, and the job has what was found.
+    Found(Ticket),
 }
 
 /// A place of a worker's batch: a pair from its take to its settling, and the view that it is searched by, with the watcher
@@ -35,6 +37,9 @@ pub struct Job {
     /// How many entries there were when the pair was taken.
     pub since: usize,
     pub progress: Progress,
+    /// What was found, where its progress is `Found`, and else nothing of meaning. It is large, and stands beside the progress
+    /// so that no step of a pair for which nothing is found writes it.
+    pub finding: Finding,
 }
 
 /// What a worker has besides its pass of the lock.

@@ -8,9 +8,10 @@ use crate::hints::{HintDeque, Thief};
 use crate::pace::Pace;
 use crate::workspace::{Job, Progress, StealPass, Workspace};
 use chase_core::{Setup, Woken};
+use chase_laws::Places;
 use gk_base::NoMemory;
 use label_board::{Board, Watcher};
-use paired_search::View;
+use paired_search::{Finding, View};
 use std::alloc::Global;
 
 // How many woken pairs one settle may note.
@@ -54,6 +55,15 @@ pub fn batch_size(widest: u32) -> u32
     BATCH.min(NAMES / widest.max(1)).max(1)
 }
 
+/// What stands in a job before anything was found.
+fn no_finding() -> Finding {
+    Finding {
+        key: 0,
+        left: Places::empty(),
+        right: Places::empty(),
+    }
+}
+
 /// Jobs without a pair, for the last so many of the watchers, with room for the widest view.
 fn free_jobs(
     alloc: Global,
@@ -77,6 +87,7 @@ fn free_jobs(
             watcher,
             since: 0,
             progress: Progress::Free,
+            finding: no_finding(),
         });
     }
     Ok(jobs)
