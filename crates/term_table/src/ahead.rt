@@ -2,46 +2,39 @@
 //!
 //! A look-up in a table that is larger than the processor's caches waits for memory at each of its steps: the set's group, the
 //! mark, the term's places, its text. Where many look-ups take the same step one after another, they wait at the same time.
-//! What is found so is a place to try first, and no more: it need not be right, so no clause says more than how many there are.
+//! What is found so is a place to try first, and no more: it need not be right, so no clause says more of it than its type.
+//! Terms that came a little before in the list are not looked up at all, and of them a clause says which term they are.
 
-ghost use Rattle.std.specs.Prelude.{◌≡◌, length, IfOk};
+ghost use Rattle.std.specs.Prelude.{◌≡◌, ◌<◌, ◌≤◌, ◌-◌, ◌^◌, length, OnOk};
+ghost use Rattle.term_table.specs.Firsts.{AreFirsts};
 
+use crate::hashing::TermHasher;
 use crate::marks::{Marks, NO_PLACE};
+use crate::recent::Recent;
 use gk_base::NoMemory;
 use std::alloc::Global;
 use term_list::Terms;
 
-// The places of the terms with these marks.
-fn places_with(alloc: Global, marks: &Marks, numbers: &[u32]) -> Result<Vec<u32>, NoMemory>
-    ensures { IfOk result (λ places. length places.items ≡ length numbers.now) }
-{
-    let mut places = Vec::with_capacity(alloc, numbers.len())?;
-    for number in numbers {
-        places.push(marks.place_with(*number))?;
-    }
-    Ok(places)
+/// So many terms at most are looked up together. What their look-ups fetch is used before it leaves the nearest caches, however
+/// long the list is.
+pub(crate) const GROUP: usize = 256;
+
+/// A look-up on its way.
+#[derive(Clone, Copy)]
+struct LookUp {
+    /// Where in the list the term stands.
+    at: u32,
+    /// The term's hash, and then the place of the name that has it as its mark.
+    found: u32,
 }
 
-// Those of these places where a name stands whose first text is like the term's.
-fn where_like<F: Fn(&[u8], &[u8]) -> bool>(
-    alloc: Global,
-    names: &Terms,
-    places: &[u32],
-    terms: &Terms,
-    is_like: F,
-) -> Result<Vec<u32>, NoMemory>
-    requires each { length places.now ≡ length terms.now }
-    requires callable { F.IsAlwaysCallable is_like }
-    ensures { IfOk result (λ kept. length kept.items ≡ length terms.now) }
-{
-    let mut kept = Vec::with_capacity(alloc, places.len())?;
-    for at in 0..terms.len() {
-        let place = places[at];
-        let likely = (place as usize) < names.len()
-            && is_like(names.get(place as usize).first(), terms.get(at).first());
-        kept.push(if likely { place } else { NO_PLACE })?;
-    }
-    Ok(kept)
+/// What is known of a group of terms of a list before they are numbered.
+#[derive(Drop)]
+pub(crate) struct Ahead {
+    recent: Recent,
+    /// For each term of the group its own place, or that of a term before it that is the same.
+    pub(crate) firsts: Vec<u32>,
+    look_ups: Vec<LookUp>,
 }
 
 // Whether two texts are as long.
@@ -56,18 +49,95 @@ fn end_alike(name: &[u8], term: &[u8]) -> bool {
     name.last() == term.last()
 }
 
-/// For each of these terms the place where it may stand in the list of names that has these marks: that of the name whose mark
-/// is the term's hash.
-pub(crate) fn likely_places(
-    alloc: Global,
-    marks: &Marks,
+// Keeps what was found where a name stands whose first text is like the term's.
+fn keep_like<F: Fn(&[u8], &[u8]) -> bool>(
     names: &Terms,
     terms: &Terms,
-) -> Result<Vec<u32>, NoMemory>
-    ensures { IfOk result (λ places. length places.items ≡ length terms.now) }
+    look_ups: &mut [LookUp],
+    is_like: F,
+)
+    requires { F.IsAlwaysCallable is_like }
 {
-    let hashes = marks.hasher().hashes_of(alloc, terms)?;
-    let places = places_with(alloc, marks, &hashes)?;
-    let places = where_like(alloc, names, &places, terms, are_as_long)?;
-    where_like(alloc, names, &places, terms, end_alike)
+    for look_up in look_ups {
+        let (found, at) = (look_up.found as usize, look_up.at as usize);
+        let likely = found < names.len()
+            && at < terms.len()
+            && is_like(names.get(found).first(), terms.get(at).first());
+        if !likely {
+            look_up.found = NO_PLACE;
+        }
+    }
+}
+
+impl Ahead {
+    /// Nothing is known of any term.
+    pub(crate) fn new(alloc: Global) -> Ahead {
+        Ahead {
+            recent: Recent::new(),
+            firsts: Vec::new(alloc),
+            look_ups: Vec::new(alloc),
+        }
+    }
+
+    // Finds which terms came before. Those that did not are to be looked up by their hashes.
+    fn look_back(
+        &mut self,
+        hasher: TermHasher,
+        terms: &Terms,
+        start: usize,
+        end: usize,
+    ) -> Result<(), NoMemory>
+        requires ordered { start ≤ end }
+        requires within { end ≤ length terms.now }
+        requires few { length terms.now < 2 ^ 32 }
+        ensures firsts { OnOk result (AreFirsts terms.now start self.new.firsts.items) }
+        ensures one_each { OnOk result (length self.new.firsts.items ≡ end - start) }
+    {
+        self.firsts.clear();
+        self.look_ups.clear();
+        for at in start..end {
+            let first = self.recent.first(terms, at);
+            self.firsts.push(first)?;
+            if first as usize == at {
+                self.look_ups.push(LookUp {
+                    at: first,
+                    found: hasher.hash_of(&terms.get(at)),
+                })?;
+            }
+        }
+        Ok(())
+    }
+
+    /// Looks ahead at the terms of a list from one place to another.
+    pub(crate) fn look(
+        &mut self,
+        marks: &Marks,
+        names: &Terms,
+        terms: &Terms,
+        start: usize,
+        end: usize,
+    ) -> Result<(), NoMemory>
+        requires ordered { start ≤ end }
+        requires within { end ≤ length terms.now }
+        requires few { length terms.now < 2 ^ 32 }
+        ensures firsts { OnOk result (AreFirsts terms.now start self.new.firsts.items) }
+        ensures one_each { OnOk result (length self.new.firsts.items ≡ end - start) }
+    {
+        self.look_back(marks.hasher(), terms, start, end)?;
+        for look_up in &mut self.look_ups {
+            look_up.found = marks.place_with(look_up.found);
+        }
+        keep_like(names, terms, &mut self.look_ups, are_as_long);
+        keep_like(names, terms, &mut self.look_ups, end_alike);
+        Ok(())
+    }
+
+    /// The place where the name may stand that this look-up of the group, counted from 0, looks for, or no place.
+    #[inline]
+    pub(crate) fn likely(&self, count: usize) -> u32 {
+        match self.look_ups.get(count) {
+            Some(look_up) => look_up.found,
+            None => NO_PLACE,
+        }
+    }
 }

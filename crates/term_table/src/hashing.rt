@@ -1,12 +1,10 @@
 //! The hashes of terms.
 
-ghost use Rattle.std.specs.Prelude.{◌≡◌, length, IfOk};
+ghost use Rattle.std.specs.Prelude.{◌≡◌};
 ghost use Rattle.term_table.specs.Marks.{hash_of};
 
-use gk_base::NoMemory;
-use std::alloc::Global;
 use std::hash::{FoldHasher, Hasher};
-use term_list::{TermRef, Terms};
+use term_list::TermRef;
 
 /// How a table hashes its terms. Only speed rests on it: every contract holds for each of them.
 #[derive(Clone, Copy)]
@@ -40,16 +38,5 @@ impl TermHasher {
         hasher.write(term.first());
         hasher.write(term.second());
         (hasher.finish() >> 33) as u32
-    }
-
-    /// The hashes of these terms.
-    pub(crate) fn hashes_of(&self, alloc: Global, terms: &Terms) -> Result<Vec<u32>, NoMemory>
-        ensures { IfOk result (λ hashes. length hashes.items ≡ length terms.now) }
-    {
-        let mut hashes = Vec::with_capacity(alloc, terms.len())?;
-        for at in 0..terms.len() {
-            hashes.push(self.hash_of(&terms.get(at)))?;
-        }
-        Ok(hashes)
     }
 }

@@ -7,6 +7,7 @@
 //! - `marks`: from a term to its place
 //! - `hashing`: the hashes of terms, begun with a seed
 //! - `ahead`: look-ups of many terms that go step by step together
+//! - `recent`: which terms of a list came before in it
 //! - `folding`: which literals are the same but for case
 #![tactic(auto)]
 
@@ -15,5 +16,6 @@ mod folding;
 mod hashing;
 mod marks;
 mod names;
+mod recent;
 
 pub use names::Names;

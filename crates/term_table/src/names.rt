@@ -4,7 +4,7 @@ ghost use Rattle.std.specs.Prelude.{◌≡◌, ℕ, ◌+◌, ◌-◌, ◌^◌, �
 ghost use Rattle.term_table.specs.Folding.{FoldsOf, folds_of, IsLiteralAt};
 ghost use Rattle.term_table.specs.Numbering.{with_term, with_terms, place_of, AreDistinct, HasTakenSome};
 
-use crate::ahead::likely_places;
+use crate::ahead::{Ahead, GROUP};
 use crate::folding::folds;
 use crate::hashing::TermHasher;
 use crate::marks::Marks;
@@ -145,11 +145,25 @@ impl Names {
         ensures distinct { AreDistinct self.new }
     {
         let alloc = self.alloc;
-        let likely = likely_places(alloc, &self.marks, &self.terms, terms)?;
+        let mut ahead = Ahead::new(alloc);
         let mut numbers = Vec::with_capacity(alloc, terms.len())?;
-        for at in 0..terms.len() {
-            let number = self.intern_likely(likely[at], &terms.get(at))?;
-            numbers.push(number)?;
+        let mut start = 0;
+        'groups: while start < terms.len() {
+            let end = terms.len().min(start + GROUP);
+            ahead.look(&self.marks, &self.terms, terms, start, end)?;
+            let mut count = 0;
+            for at in start..end {
+                let first = ahead.firsts[at - start] as usize;
+                let term = terms.get(at);
+                let number = if first < at {
+                    numbers[first]
+                } else {
+                    count += 1;
+                    self.intern_likely(ahead.likely(count - 1), &term)?
+                };
+                numbers.push(number)?;
+            }
+            start = end;
         }
         Ok(numbers)
     }
