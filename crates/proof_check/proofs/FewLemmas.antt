@@ -1,5 +1,5 @@
 -- Rows that ascend, looked at one after another.
-use Rattle.std.proofs.Common.{List, [], ◌∷◌, ℕ, ◌+◌, ◌-◌, ◌<◌, ◌≤◌, Bool, true, false, cond, nat_eq, Contains, length, get_or, slice_index, Ordering, ◌≡◌, inl, inr, refl, ap, ◌∙◌, arith, true≢false, below_more}
+use Rattle.std.proofs.Common.{List, [], ◌∷◌, ℕ, ◌+◌, ◌-◌, ◌<◌, ◌≤◌, Bool, true, false, cond, nat_eq, Contains, length, get_or, slice_index, Ordering, ◌≡◌, inl, inr, refl, ap, ◌∙◌, arith, true≢false}
 use Rattle.std.specs.Ordering.{nat_cmp, is_lt, ordering_then}
 use Rattle.std.specs.declared.cmp.Ordering.TheVariants.{Less, Equal, Greater}
 use Rattle.std.specs.Cmp.Lexicographic.{slice_cmp}
@@ -46,12 +46,6 @@ lower_before rows place s sorted some within low = record {
 abbrev pub NoneBefore : List (List ℕ) → List ℕ → ℕ → Type 0
 NoneBefore rows row n = (k : ℕ) → k < n → get_or rows k [] ≡ row → ⊥
 
-pub none_lower : (rows : List (List ℕ)) (place s p o : ℕ) → HasLowerBefore rows place s → NoneBefore rows (s ∷ p ∷ o ∷ []) place
-none_lower rows place s p o h k l e = let low = h.lower k l in let same : first_number (get_or rows k []) ≡ s = ap first_number e in omega arith
-
-pub none_more : (rows : List (List ℕ)) (row : List ℕ) (n : ℕ) → NoneBefore rows row n → (get_or rows n [] ≡ row → ⊥) → NoneBefore rows row (n + 1)
-none_more rows row n before here = below_more _ _ before here
-
 -- all rows were looked at
 pub none_at_all : (rows : List (List ℕ)) (row : List ℕ) (n : ℕ) → length rows ≤ n → NoneBefore rows row n → Contains rows row → ⊥
 none_at_all rows row n all none c = none c.0 (let l = c.1 in omega arith) (get_or_default rows c.0 [] row c.1 ∙ c.2)
@@ -65,9 +59,6 @@ none_later rows place s p o sorted high none c = elim (cases_lt c.0 place) [
       let same : first_number (get_or rows c.0 []) ≡ s = ap first_number (get_or_default rows c.0 [] (s ∷ p ∷ o ∷ []) c.1 ∙ c.2) in
       omega arith
 ]
-
-pub found_there : (rows : List (List ℕ)) (row : List ℕ) (place : ℕ) → place < length rows → get_or rows place [] ≡ row → Contains rows row
-found_there rows row place within e = (place, within, get_or_default rows place row [] within ∙ e)
 
 -- a row of three numbers
 pub three_numbers : (row : List ℕ) → length row ≡ 3 → row ≡ slice_index row 0 ∷ slice_index row 1 ∷ slice_index row 2 ∷ []

@@ -9,5 +9,5 @@ mod SameReason
 mod StepLemmas
 mod LookupLemmas
 mod NumberLemmas
-mod PreparedLemmas
+mod ReadyLemmas
 mod SameVerdict

@@ -1,17 +1,17 @@
 -- Sorted rows.
-use Rattle.std.proofs.Common.{List, [], ◌∷◌, ℕ, Bool, true, false, nat_eq, Result, Ok, Err, Contains, length, get_or, ◌≡◌, ◌↔◌, inl, inr, refl, sym, ap, ap₂, ◌∙◌, arith, true≢false, eqb-true}
+use Rattle.std.proofs.Common.{List, [], ◌∷◌, ℕ, Bool, true, nat_eq, Result, Ok, Err, Contains, length, get_or, ◌≡◌, ◌↔◌, inl, inr, refl, sym, ap, ap₂, ◌∙◌, arith, true≢false, eqb-true}
 use Rattle.std.specs.Result.{is_ok}
 use Rattle.std.specs.List.Sorted.{IsSorted, IsSearchInRange, IsBinarySearchResult}
 use Rattle.std.specs.Ordering.{nat_cmp, is_eq}
 use Rattle.std.specs.declared.cmp.Ordering.TheVariants.{Less, Equal, Greater}
 use Rattle.std.specs.Cmp.Lexicographic.{pointwise, slice_cmp, texts_ties}
-use Rattle.std.proofs.lemmas.Bool.{and_parts, cases_lt, false_from_ne_true}
+use Rattle.std.proofs.lemmas.Bool.{and_parts, cases_lt}
 use Rattle.std.specs.List.{list_any}
 use Rattle.std.proofs.Common.{bytes_eq}
 use Rattle.std.proofs.lemmas.List.Folds.{list_any_at}
 use Rattle.std.proofs.lemmas.Slice.Eq.{bytes_eq-Decides}
 use Rattle.std.proofs.lemmas.Option.{slice_get_within, get_or_from_slice_get}
-use Rattle.proof_check.proofs.ListFacts.{any_found}
+use Rattle.proof_check.proofs.ListFacts.{both_ways, any_found}
 use Rattle.std.proofs.lemmas.Cmp.{nat_list_cmp_total, tied_itself}
 use Rattle.std.proofs.lemmas.List.Sorted.{searchable_from_sorted}
 
@@ -40,10 +40,6 @@ searched_row rows row (Err i) sorted range found =
     )
 
 -- a test of a row
-both_ways : (p q : Bool) → (p ≡ true → q ≡ true) → (q ≡ true → p ≡ true) → p ≡ q
-both_ways true q f g = sym (f refl)
-both_ways false q f g = sym (false_from_ne_true q (λ h. true≢false (sym (g h))))
-
 pub row_test : (rows : List (List ℕ)) (row : List ℕ) (b : Bool) → (b ≡ true) ↔ Contains rows row → b ≡ list_any (bytes_eq row) rows
 row_test rows row b h =
     both_ways b (list_any (bytes_eq row) rows)

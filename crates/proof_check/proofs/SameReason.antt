@@ -177,14 +177,6 @@ module _ (triples : List Triple) (names : List Term) (rows : List (List ℕ)) (k
       cases false true p = refl
       cases false false p = refl
 
-  end_along_none : (ls : List (ℕ × ℕ)) (ns : List ℕ) → end_along nat_eq ls ns None ≡ None
-  end_along_none ls [] = refl
-  end_along_none ls (m ∷ ns) = refl
-
-  term_none : (ls : List (Term × Term)) (ns : List ℕ) → end_along same_term ls ns None ≡ None
-  term_none ls [] = refl
-  term_none ls (m ∷ ns) = refl
-
   get_both : (ends : List (ℕ × ℕ)) (k : ℕ) → slice_get (map both ends) k ≡ option_map both (slice_get ends k)
   get_both [] k = refl
   get_both (p ∷ ends) zero = refl

@@ -5,10 +5,12 @@ ghost use Rattle.std.specs.List.{list_all};
 ghost use Rattle.proof_graph.specs.Tells.{are_earlier};
 ghost use Rattle.proof_check.specs.NumberVerdict.{numbers_have_shape, number_reason};
 ghost use Rattle.proof_check.specs.Rows.{HasPlaces, AreEarlier};
+ghost use Rattle.proof_check.specs.Ready.{with_sides};
 
-use crate::lookup::Lookup;
+use crate::checker::Checker;
 use crate::reason::Reason;
 use crate::side::{are_constants, are_different, are_known, have_images, have_kinds};
+use crate::sides::Sides;
 use crate::supports::{all_lead, are_earlier, are_supports};
 use crate::values::all_agree;
 use chase_laws::Pattern;
@@ -17,22 +19,23 @@ use gk_base::NoMemory;
 use proof_graph::ProofStep;
 use std::alloc::Global;
 
-/// Whether a step has one term for each slot on either side, and the supports that its pattern asks for.
-fn has_shape(pattern: &Pattern, step: &ProofStep) -> bool
-    ensures { result ≡ numbers_have_shape pattern.now step.now }
+/// Whether a step has one number for each slot on either side, and the supports that its pattern asks for.
+fn has_shape(pattern: &Pattern, step: &ProofStep, sides: &Sides) -> bool
+    ensures { result ≡ numbers_have_shape pattern.now (with_sides step.now sides.now) }
 {
-    step.left.len() == pattern.slots.len()
-        && step.right.len() == pattern.slots.len()
+    sides.left.len() == pattern.slots.len()
+        && sides.right.len() == pattern.slots.len()
         && are_supports(&pattern.slots, &step.supports)
 }
 
 /// What the test of a step's shape says, for the proofs of the tests after it.
-fn shape_tells(pattern: &Pattern, step: &ProofStep)
-    requires { numbers_have_shape pattern.now step.now ≡ true }
-    ensures { HasPlaces pattern.now step.now }
+fn shape_tells(pattern: &Pattern, step: &ProofStep, sides: &Sides)
+    requires { numbers_have_shape pattern.now (with_sides step.now sides.now) ≡ true }
+    ensures { HasPlaces pattern.now (with_sides step.now sides.now) }
 {
     let _slots = pattern.slots.len();
-    let _steps = step.left.len();
+    let _supports = step.supports.len();
+    let _left = sides.left.len();
     law_pattern();
 }
 
@@ -44,44 +47,46 @@ fn earlier_tells(count: usize, step: &ProofStep)
     let _steps = step.left.len();
 }
 
-/// The least reason against a step with this pattern, where the earlier steps have these ends.
+/// The least reason against a step with this pattern and these sides, where the earlier steps have these ends.
 pub(crate) fn least_reason(
     alloc: Global,
-    look: &Lookup,
+    checker: &Checker,
     pattern: &Pattern,
     step: &ProofStep,
+    sides: &Sides,
     ends: &[(u32, u32)],
 ) -> Result<Option<Reason>, NoMemory>
-    requires count { length look.now.known.items ≡ length look.now.names }
-    requires left { All (λ n. n < length look.now.names) step.now.left }
-    requires right { All (λ n. n < length look.now.names) step.now.right }
-    ensures { IfOk result (λ reason. reason ≡ number_reason look.now.rows look.now.known.items look.now.names look.now.kind ends.now step.now pattern.now) }
+    requires left { All (λ n. n < length checker.now.names) sides.now.left.items }
+    requires right { All (λ n. n < length checker.now.names) sides.now.right.items }
+    ensures { IfOk result (λ reason. reason ≡ number_reason checker.now.rows checker.now.known.items checker.now.names checker.now.kind ends.now
+        (with_sides step.now sides.now) pattern.now) }
 {
     let (slots, edges) = (pattern.slots.as_slice(), pattern.edges.as_slice());
-    let (left, right) = (step.left.as_slice(), step.right.as_slice());
+    let (left, right) = (sides.left.as_slice(), sides.right.as_slice());
     let supports = step.supports.as_slice();
-    if !has_shape(pattern, step) {
+    let (names, rows, kind) = (&checker.names, &checker.rows, checker.kind);
+    if !has_shape(pattern, step, sides) {
         return Ok(Some(Reason::WrongShape));
     }
-    shape_tells(pattern, step);
-    if !(are_known(&look.known, left) && are_known(&look.known, right)) {
+    shape_tells(pattern, step, sides);
+    if !(are_known(&checker.known, left) && are_known(&checker.known, right)) {
         return Ok(Some(Reason::TermNotInTheGraph));
     }
     if !(are_different(left) && are_different(right)) {
         return Ok(Some(Reason::TermTwice));
     }
-    if !(have_kinds(&look.rows, &look.names, look.kind, slots, left)
-        && have_kinds(&look.rows, &look.names, look.kind, slots, right))
+    if !(have_kinds(rows, names, kind, slots, left)
+        && have_kinds(rows, names, kind, slots, right))
     {
         return Ok(Some(Reason::WrongKindOrType));
     }
-    if !(have_images(&look.rows, edges, left) && have_images(&look.rows, edges, right)) {
+    if !(have_images(rows, edges, left) && have_images(rows, edges, right)) {
         return Ok(Some(Reason::TripleMissing));
     }
     if !(are_constants(slots, left) && are_constants(slots, right)) {
         return Ok(Some(Reason::ConstantDiffers));
     }
-    if !all_agree(alloc, &look.names, slots, left, right)? {
+    if !all_agree(alloc, names, slots, left, right)? {
         return Ok(Some(Reason::ValueDiffers));
     }
     if !are_earlier(ends.len(), supports) {

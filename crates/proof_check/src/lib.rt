@@ -3,27 +3,31 @@
 //! (`specs/Verdict.antt`); it searches for nothing, and knows nothing of how matches are found.
 //!
 //! - `verdict`, `reason`: what is said of a proof
-//! - `checking`: the checker
-//! - `numbers`: triples in numbers, and numbers of a graph among those of a proof
-//! - `lookup`, `rows`: what is looked up in the graph
+//! - `checker`: what is made of a graph and keys before a proof is there, and the checker
+//! - `checking`: the verdict on the steps of a proof
+//! - `numbers`: triples in numbers
+//! - `ends`, `rows`: what is looked up in the graph
+//! - `sides`: the sides of a step by the numbers of the graph's names
 //! - `judging`: the least reason against a step
 //! - `side`, `values`, `supports`: the tests of a step
 //! - `laws`: what an accepted proof is
 #![tactic(auto)]
 
+mod checker;
 mod checking;
+mod ends;
 mod judging;
 mod laws;
-mod lookup;
 mod numbers;
 mod reason;
 mod rows;
 mod side;
+mod sides;
 mod supports;
 mod values;
 mod verdict;
 
-pub use checking::{check, check_rows};
+pub use checker::{Checker, check, check_rows};
 pub use laws::law_proof;
 pub use reason::Reason;
 pub use verdict::Verdict;

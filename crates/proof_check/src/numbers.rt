@@ -1,53 +1,18 @@
-//! Terms of a graph, and triples, in numbers.
+//! Triples in numbers.
 
-ghost use Rattle.std.specs.Prelude.{◌≡◌, ◌<◌, ℕ, IfOk, IfSome, length, map, slice_index_or};
+ghost use Rattle.std.specs.Prelude.{◌≡◌, IfOk, map};
 ghost use Rattle.term_list.specs.Triples.{terms_of};
 ghost use Rattle.term_table.specs.Numbering.{place_of};
 ghost use Rattle.key_file.specs.Numbered.{row_of};
-ghost use Rattle.proof_check.specs.Rows.{number_in, with_number, IsGraphInNumbers};
+ghost use Rattle.proof_check.specs.Rows.{IsGraphInNumbers};
 
 use gk_base::NoMemory;
 use std::alloc::Global;
 use term_list::Triples;
 use term_table::Names;
 
-/// How many terms names may number.
-const MOST_NUMBERED: usize = 4294967296;
-
-/// Notes a number at a place, if there is one.
-fn note(numbers: &mut [Option<u32>], place: Option<u32>, number: u32)
-    requires { IfSome place (λ p. p < length numbers.old) }
-    ensures { numbers.new ≡ with_number numbers.old place number }
-{
-    if let Some(p) = place {
-        numbers[p as usize] = Some(number);
-    }
-}
-
-/// Looks each of these names up in a graph, and notes its number at the place that it has there.
-fn look_up_all(graph: &Names, names: &Names, numbers: &mut [Option<u32>])
-    requires one_each { length numbers.old ≡ length graph.now }
-    requires none { (place : ℕ) → slice_index_or numbers.old place None ≡ None }
-    ensures { numbers.new ≡ map (number_in names.now) graph.now }
-{
-    let _distinct = graph.len();
-    for number in 0..names.len() {
-        note(numbers, graph.find_ref(&names.term(number)), number);
-    }
-}
-
-/// For each name of a graph its number among other names, if it is one of them. Each of the others is looked up once.
-pub(crate) fn numbers_among(
-    alloc: Global,
-    graph: &Names,
-    names: &Names,
-) -> Result<Vec<Option<u32>>, NoMemory>
-    ensures { IfOk result (λ numbers. numbers.items ≡ map (number_in names.now) graph.now) }
-{
-    let mut numbers = vec![in alloc; None; graph.len() as usize]?;
-    look_up_all(graph, names, &mut numbers);
-    Ok(numbers)
-}
+/// How many names can be numbered, which is by four bytes.
+pub(crate) const MOST_NUMBERED: usize = 4294967296;
 
 /// Triples in numbers, as `check_rows` takes them.
 #[derive(Drop)]

@@ -1,6 +1,6 @@
 //! The tests of one side of a step, over numbers of terms.
 
-ghost use Rattle.std.specs.Prelude.{◌≡◌, ◌<◌, All, nat_eq, length};
+ghost use Rattle.std.specs.Prelude.{◌≡◌, ◌<◌, All, false, nat_eq, length, slice_index_or};
 ghost use Rattle.key_file.specs.Key.{all_differ};
 ghost use Rattle.proof_check.specs.NumberVerdict.{has_row, numbers_are_known, number_has_kind, numbers_have_kinds, numbers_have_images, number_is_constant, numbers_are_constants};
 
@@ -15,12 +15,21 @@ fn holds(rows: &SortedRows, s: u32, p: u32, o: u32) -> bool
     rows.has(s, p, o)
 }
 
+/// Whether a number has its flag set. One without a flag has not.
+fn is_known(known: &[bool], n: u32) -> bool
+    ensures { result ≡ slice_index_or known.now n false }
+{
+    match known.get(n as usize) {
+        Some(is) => *is,
+        None => false,
+    }
+}
+
 /// Whether each number is that of a term that is subject or object of a triple.
 pub(crate) fn are_known(known: &[bool], side: &[u32]) -> bool
-    requires { All (λ n. n < length known.now) side.now }
     ensures { result ≡ numbers_are_known known.now side.now }
 {
-    side.iter().all(|n| known[*n as usize])
+    side.iter().all(|n| is_known(known, *n))
 }
 
 /// Whether no number stands twice.
