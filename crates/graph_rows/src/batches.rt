@@ -15,15 +15,22 @@ use nt_reader::Reader;
 use std::thread::{Threads, join_mut};
 use term_list::Triples;
 
-/// A batch ends with the piece that makes it so many bytes. Each batch but the last costs the start of a thread.
-const BATCH: usize = 131_072;
+/// The first batch ends with the piece that makes it so many bytes: until it is read, nothing is numbered.
+const FIRST: usize = 131_072;
 
-/// Reads and feeds the pieces of a batch, or those that are left, and answers whether the file is at its end.
+/// Each batch is twice as large as the one before, up to so many bytes. Each but the last costs the start of a thread, which the
+/// system may put beside the caller's for some milliseconds before it gives it a processor of its own; so they are to be few.
+/// While the last is numbered nothing is read, and two batches lie in memory; so they are not to be larger.
+const LARGEST: usize = 4_194_304;
+
+/// Reads and feeds the pieces of a batch of so many bytes, or those that are left, and answers whether the file is at its end.
 fn feed_batch<S: Shelf>(
     shelf: &mut S,
     buf: &mut Vec<u8>,
     reader: &mut Reader,
+    size: usize,
 ) -> Result<bool, FileStop<ReadRefusal>>
+    requires size { (0 < size) × (size ≤ LARGEST) }
     requires some { 0 < vec_len buf.old }
     requires few { vec_len buf.old ≤ 65536 }
     requires running { IsOk reader.old.so_far }
@@ -34,7 +41,7 @@ fn feed_batch<S: Shelf>(
     ensures feeds { FeedsBatch S.Shelf shelf.old shelf.new reader.old reader.new result }
 {
     let mut bytes = 0;
-    'pieces: while bytes < BATCH {
+    'pieces: while bytes < size {
         let count = feed_next(shelf, buf, reader)?;
         if count == 0 {
             return Ok(true);
@@ -53,7 +60,9 @@ fn number_and_feed<S: Shelf, R: Threads>(
     reader: &mut Reader,
     triples: &mut Triples,
     rows: &mut Rows,
+    size: usize,
 ) -> Result<bool, FileStop<ReadRefusal>>
+    requires size { (0 < size) × (size ≤ LARGEST) }
     requires some { 0 < vec_len buf.old }
     requires few { vec_len buf.old ≤ 65536 }
     requires running { IsOk reader.old.so_far }
@@ -69,7 +78,7 @@ fn number_and_feed<S: Shelf, R: Threads>(
     let (numbered, fed) = join_mut(
         rt,
         &mut || rows.add(triples),
-        &mut || feed_batch(shelf, buf, reader),
+        &mut || feed_batch(shelf, buf, reader, size),
     );
     let at_end = fed?;
     numbered?;
@@ -97,13 +106,15 @@ pub(crate) fn feed_in_batches<S: Shelf, R: Threads>(
     ensures limits { reader.new.limits ≡ reader.old.limits }
     ensures feeds { FeedsAll S.Shelf shelf.old shelf.new reader.old.limits reader.new (GoOn rows.old rows.new) result }
 {
-    let mut at_end = feed_batch(shelf, buf, reader)?;
+    let mut size = FIRST;
+    let mut at_end = feed_batch(shelf, buf, reader, size)?;
     'batches: loop {
         reader.take_triples(triples);
         if at_end {
             rows.add(triples)?;
             return Ok(());
         }
-        at_end = number_and_feed(rt, shelf, buf, reader, triples, rows)?;
+        size = LARGEST.min(size * 2);
+        at_end = number_and_feed(rt, shelf, buf, reader, triples, rows, size)?;
     }
 }

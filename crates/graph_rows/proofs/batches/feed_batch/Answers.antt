@@ -42,7 +42,7 @@ pieces-preserved g c =
       few = i.few;
       same = f.limits ∙ i.same;
       running = f.feeds.5;
-      within = (let t = c.pieces-test.true in let a = f.feeds.1.within in let b = f.feeds.2 in let d = c.deref_mut.ensures.len in let w = i.few in omega arith);
+      within = (let t = c.pieces-test.true in let z = c.requires.size in let a = f.feeds.1.within in let b = f.feeds.2 in let d = c.deref_mut.ensures.len in let w = i.few in omega arith);
       fed = (
         i.fed.0 ++ f.feeds.0,
         feeds_more g.S.Shelf c.args.shelf.now c.pieces.shelf c.feed_next.new.shelf (length c.deref_mut.result.now) c.args.reader.now c.pieces.reader c.feed_next.new.reader i.fed.0 i.fed.1 i.same f.feeds.0 f.feeds.1,
@@ -58,5 +58,5 @@ returns-clause-feeds g c =
       i.fed.1,
       i.fed.2,
       i.running,
-      (let a = i.fed.3 in let t = c.pieces-test.false in omega arith),
+      (let a = i.fed.3 in let t = c.pieces-test.false in let z = c.requires.size in omega arith),
     )

@@ -13,9 +13,9 @@ invariant-pieces g l =
       few : vec_len l.buf ≤ 65536;
       same : l.reader.limits ≡ l.fn.reader.limits;
       running : IsOk l.reader.so_far;
-      within : l.bytes < 131072 + 65536;
+      within : l.bytes < 4194304 + 65536;
       fed : (gone : List ℕ) × FeedsOn shelf l.fn.shelf l.shelf l.fn.reader l.reader gone × StaysOpen l.fn.reader gone × (l.bytes ≡ length gone);
     }
 
 abbrev pub decreases-pieces : goal.decreases-pieces
-decreases-pieces g l = 131072 - l.bytes
+decreases-pieces g l = 4194304 - l.bytes

@@ -17,6 +17,7 @@ invariant-batches g l =
       none : l.triples ≡ [];
       room : LeaveRoom l.fn.rows l.reader.limits.triples;
       running : IsOk l.reader.so_far;
+      size : (0 < l.size) × (l.size ≤ 4194304);
       fed : (taken : List Triple) × (seen : List ℕ) × HasFed shelf l.fn.shelf l.shelf l.fn.reader.limits l.reader (GoOn l.fn.rows l.rows) taken seen
           × (IsTrue l.at_end → AreAll shelf l.fn.shelf seen);
     }
