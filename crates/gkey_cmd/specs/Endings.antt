@@ -1,5 +1,5 @@
 -- How a run ends before anything is written, and what is written then: this project's own words.
-use Rattle.std.specs.Prelude.{List, [], ◌∷◌, ◌++◌, ℕ, ◌≡◌, ◌⊎◌, Option, Some, None, Ok, IfSome, vec_items, ⊤}
+use Rattle.std.specs.Prelude.{List, [], ◌∷◌, ◌++◌, ℕ, ◌^◌, ◌<◌, ◌≡◌, ◌⊎◌, Option, Some, None, Ok, IfSome, vec_items, length, ⊤}
 use Rattle.gk_base.specs.declared.limits.Limits.{Limits}
 use Rattle.gk_base.specs.declared.read_fault.ReadRefusal.{ReadRefusal}
 use Rattle.gk_base.specs.declared.stop.Stop.{Stop}
@@ -13,6 +13,7 @@ use Rattle.gk_io.specs.declared.shelf.Shelf
 use Rattle.gk_io.specs.declared.sink.Sink
 use Rattle.key_lang.specs.declared.fault.KeyRefusal.{KeyRefusal}
 use Rattle.proof_graph.specs.declared.fault.ProofRefusal.{ProofRefusal}
+use Rattle.proof_graph.specs.Steps.{StepShape}
 use Rattle.graph_rows.specs.GraphFile.{GraphStops, AreMoreRowsOf}
 use Rattle.graph_rows.specs.Rows.{StandFor}
 use Rattle.graph_rows.specs.declared.rows.Rows.{Rows}
@@ -20,7 +21,7 @@ use Rattle.graph_rows.specs.declared.pieces.MoreRows.{MoreRows}
 use Rattle.key_file.specs.KeyShape.{KeyShape}
 use Rattle.gkey_cmd.specs.Commands.{Wanted, Demonstrating, AsksNoFiles}
 use Rattle.gkey_cmd.specs.Texts.{usage, out_of_memory, write_failed, read_failed, refused_text}
-use Rattle.gkey_cmd.specs.Reading.{NamedFiles, GraphSays, KeyFileSays, left_by, IsAcceptedLeaving, IsRefusedSo}
+use Rattle.gkey_cmd.specs.Reading.{NamedFiles, GraphSays, KeyFileSays, ProofFileSays, left_by, IsAcceptedLeaving, IsRefusedSo}
 use Rattle.gkey_cmd.specs.HowFar.{KeysLeft, ProofLeft, LeavesFiles, StopsReading}
 use Rattle.gkey_cmd.specs.Failing.{HasFailed}
 use Rattle.gkey_cmd.specs.Sent.{TookAll, TookLess, Sent}
@@ -176,6 +177,13 @@ pub record ReadBothAs {K : Type 0} (shelf : Shelf.Ghosts K) (shelf_before shelf_
 abbrev pub ReadBoth : {K : Type 0} (shelf : Shelf.Ghosts K) (shelf_before shelf_now : K) → Limits → (graph keys : List ℕ) → Rows → List KeyShape → Type 0
 ReadBoth shelf shelf_before shelf_now limits graph keys rows key_list =
     (triples : List Triple) × ReadBothAs shelf shelf_before shelf_now limits graph keys rows key_list triples
+
+-- The proof file of this name was read and is accepted: it has few steps, and was left as it is to be left.
+pub record ReadProof {K : Type 0} (shelf : Shelf.Ghosts K) (shelf_before shelf_now : K) (limits : Limits) (name : List ℕ) (steps : List StepShape) : Type 0 where
+  pub count : shelf.faults shelf_now ≡ shelf.faults shelf_before
+  pub in_proof : IfSome (shelf.held shelf_before) (λ files. ProofFileSays limits (bytes_of files name) (Ok steps))
+  pub few : length steps < 2 ^ 32
+  pub left : ProofLeft shelf shelf_before shelf_now limits name
 
 -- the graph of this name was read behind rows that are there, and goes on with them
 abbrev pub ReadMore : {K : Type 0} (shelf : Shelf.Ghosts K) (shelf_before shelf_now : K) → Limits → (name : List ℕ) → Rows → MoreRows → Type 0

@@ -2,15 +2,14 @@
 
 ghost use Rattle.std.specs.Prelude.{◌≡◌, ◌<◌, ◌^◌, length, List, IfOk};
 ghost use Rattle.gk_base.specs.declared.term.Triple.{Triple as AnyTriple};
-ghost use Rattle.graph_rows.specs.Rows.{StandFor};
+ghost use Rattle.proof_check.specs.Ready.{IsReady};
 ghost use Rattle.proof_check.specs.Verdict.{verdict};
 ghost use Rattle.gkey_cmd.specs.Checked.{verdict_answer, verdict_text};
 
 use crate::ending::Answer;
 use gk_base::NoMemory;
-use graph_rows::Rows;
 use key_lang::KeyFile;
-use proof_check::{Reason, Verdict, check_rows};
+use proof_check::{Checker, Reason, Verdict};
 use proof_graph::Proof;
 use std::alloc::Global;
 
@@ -56,17 +55,18 @@ fn verdict_text(alloc: Global, verdict: Verdict) -> Result<Vec<u8>, NoMemory>
     }
 }
 
-/// What is said of a proof whose files are read: whether it is accepted, and the text. Only want of memory stops it.
+/// What is said of a proof whose files are read, where the checker was made of the graph and the keys: whether it is accepted,
+/// and the text. Only want of memory stops it.
 pub fn check_files(
     alloc: Global,
-    graph: &Rows,
+    checker: Checker,
     keys: &KeyFile,
     proof: &Proof,
 ) -> Result<(Answer, Vec<u8>), NoMemory>
     requires { length proof.now < 2 ^ 32 }
-    ensures answer { IfOk result (λ r. (triples : List AnyTriple) → StandFor graph.now triples → r.0 ≡ verdict_answer (verdict triples keys.now proof.now)) }
-    ensures text { IfOk result (λ r. (triples : List AnyTriple) → StandFor graph.now triples → r.1.items ≡ verdict_text (verdict triples keys.now proof.now)) }
+    ensures answer { IfOk result (λ r. (triples : List AnyTriple) → IsReady checker triples keys.now → r.0 ≡ verdict_answer (verdict triples keys.now proof.now)) }
+    ensures text { IfOk result (λ r. (triples : List AnyTriple) → IsReady checker triples keys.now → r.1.items ≡ verdict_text (verdict triples keys.now proof.now)) }
 {
-    let verdict = check_rows(alloc, &graph.rows, &graph.names, keys, proof)?;
+    let verdict = checker.check(alloc, keys, proof)?;
     Ok((verdict_answer(verdict), verdict_text(alloc, verdict)?))
 }

@@ -1,6 +1,6 @@
 //! The order in which the files of a command are read, up to the first that fails or is refused, and what comes after the last.
 
-ghost use Rattle.std.specs.Prelude.{◌≡◌, ◌<◌, ◌≤◌, ◌^◌, List, Ok, length, IfOk, IfErr, OnOk, IfSome, MatchResult};
+ghost use Rattle.std.specs.Prelude.{◌≡◌, ◌<◌, ◌≤◌, ◌^◌, List, Ok, length, IfOk, IfErr, OnOk, IsSome, IfSome, MatchResult};
 ghost use Rattle.gk_base.specs.declared.term.Triple.{Triple as AnyTriple};
 ghost use Rattle.gk_io.specs.Files.{bytes_of};
 ghost use Rattle.gkey_cmd.specs.Commands.{Matching, Proving, Checking, Converting, Merging, Explaining, Growing};
@@ -9,7 +9,8 @@ ghost use Rattle.gkey_cmd.specs.Written.{AreAtMostStandard};
 ghost use Rattle.gkey_cmd.specs.HowFar.{KeysLeft, ProofLeft};
 ghost use Rattle.graph_rows.specs.Rows.{StandFor, AreFew, LeaveRoom};
 ghost use Rattle.gkey_cmd.specs.Demo.{demo_files};
-ghost use Rattle.gkey_cmd.specs.Endings.{EndsAt, Stopped, DemoStops, IsBeforeChase, ReadBoth, ReadMore, ReadThree};
+ghost use Rattle.gkey_cmd.specs.Endings.{EndsAt, Stopped, DemoStops, IsBeforeChase, ReadBoth, ReadMore, ReadProof, ReadThree};
+ghost use Rattle.proof_check.specs.Ready.{IsReady};
 
 use crate::checked::check_files;
 use crate::converted::convert_file;
@@ -27,10 +28,11 @@ use gk_base::{Limits, NoMemory, Stop, Text};
 use gk_io::{Failed, Shelf, SureShelf};
 use graph_rows::{MoreRows, Rows, load, read_more_rows, read_rows};
 use key_lang::KeyFile;
+use proof_check::Checker;
 use proof_graph::Proof;
 use std::alloc::Global;
 use std::sync::Wait;
-use std::thread::Threads;
+use std::thread::{Threads, join_mut};
 use steal_pool::Gate;
 
 /// The name that a demo's graph goes by.
@@ -38,6 +40,9 @@ const DEMO_GRAPH: &[u8] = b"graph";
 
 /// The name that a demo's keys go by.
 const DEMO_KEYS: &[u8] = b"keys";
+
+/// A graph of fewer rows is not worth a second thread.
+const FEW_ROWS: usize = 4096;
 
 /// The keys of the key file, or the ending of a run that can't have them. It is loaded whole before it is judged.
 fn read_keys<S: Shelf>(
@@ -328,6 +333,68 @@ pub(crate) fn demonstrated<Rt: Threads + Wait + Sync, G: Gate>(
     count_files(rt, alloc, rows, &read, limits.pairs, workers, gate)
 }
 
+/// The checker for these rows of a graph and these keys.
+fn checker_of(alloc: Global, graph: Rows, keys: &KeyFile) -> Result<Checker, NoMemory>
+    ensures { IfOk result (λ checker. (triples : List AnyTriple) → StandFor graph triples → IsReady checker triples keys.now) }
+{
+    Checker::new(alloc, graph.rows, graph.names, keys)
+}
+
+/// The checker for a graph and keys, and the proof of the proof file, or the ending of a run that can't have them. The checker
+/// is made in a second thread while the proof file is read and judged in the caller's. What stops the reading is the ending,
+/// whatever became of the checker.
+fn checker_and_proof_at_once<Rt: Threads, S: Shelf>(
+    rt: &Rt,
+    alloc: Global,
+    shelf: &mut S,
+    graph: Rows,
+    keys: &KeyFile,
+    proof: &Text,
+    limits: &Limits,
+) -> Result<(Checker, Proof), Ending>
+    requires { AreAtMostStandard limits.now }
+    ensures ready { IfOk result (λ r. (triples : List AnyTriple) → StandFor graph triples → IsReady r.0 triples keys.now) }
+    ensures read { IfOk result (λ r. ReadProof S.Shelf shelf.old shelf.new limits.now proof.now r.1) }
+    ensures ends { IfErr result (EndsAt S.Shelf shelf.old shelf.new limits.now File.Proof proof.now) }
+{
+    let mut rows = Some(graph);
+    let (made, told) = join_mut(
+        rt,
+        &mut || -> Result<Checker, NoMemory>
+            requires { IsSome rows }
+            ensures { IfOk result (λ checker. IfSome rows.entry (λ given.
+                (triples : List AnyTriple) → StandFor given triples → IsReady checker triples keys.entry.now)) }
+        { checker_of(alloc, rows.take().unwrap(), keys) },
+        &mut || read_proof(alloc, shelf, proof, limits),
+    );
+    let told = told?;
+    let checker = made?;
+    Ok((checker, told))
+}
+
+/// The same, but of a small graph the checker is made after the proof file is read.
+fn checker_and_proof<Rt: Threads, S: Shelf>(
+    rt: &Rt,
+    alloc: Global,
+    shelf: &mut S,
+    graph: Rows,
+    keys: &KeyFile,
+    proof: &Text,
+    limits: &Limits,
+) -> Result<(Checker, Proof), Ending>
+    requires { AreAtMostStandard limits.now }
+    ensures ready { IfOk result (λ r. (triples : List AnyTriple) → StandFor graph triples → IsReady r.0 triples keys.now) }
+    ensures read { IfOk result (λ r. ReadProof S.Shelf shelf.old shelf.new limits.now proof.now r.1) }
+    ensures ends { IfErr result (EndsAt S.Shelf shelf.old shelf.new limits.now File.Proof proof.now) }
+{
+    if graph.rows.len() >= FEW_ROWS {
+        return checker_and_proof_at_once(rt, alloc, shelf, graph, keys, proof, limits);
+    }
+    let told = read_proof(alloc, shelf, proof, limits)?;
+    let checker = checker_of(alloc, graph, keys)?;
+    Ok((checker, told))
+}
+
 /// The answer of `check` and its text, or the ending of a run that has none: the graph comes first, then the key file, then
 /// the proof file, then the checker.
 pub(crate) fn checked<Rt: Threads, S: Shelf>(
@@ -345,8 +412,16 @@ pub(crate) fn checked<Rt: Threads, S: Shelf>(
 {
     let numbered_graph = read_rows(rt, alloc, WORKERS, shelf, graph, limits)?;
     let key_file = read_keys(alloc, shelf, keys, limits)?;
-    let told = read_proof(alloc, shelf, proof, limits)?;
-    let answer = check_files(alloc, &numbered_graph, &key_file, &told)?;
+    let (checker, told) = checker_and_proof(
+        rt,
+        alloc,
+        shelf,
+        numbered_graph,
+        &key_file,
+        proof,
+        limits,
+    )?;
+    let answer = check_files(alloc, checker, &key_file, &told)?;
     Ok(answer)
 }
 
