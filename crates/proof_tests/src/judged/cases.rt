@@ -7,7 +7,7 @@ use fixtures::texts::{
 use proof_check::{Reason, Verdict};
 
 /// Graphs, keys and proofs.
-static CASES: [Case; 9] = [
+static CASES: [Case; 11] = [
     Case {
         about: "the albums' graph in another order and with repeats",
         graph: b"\
@@ -177,6 +177,59 @@ static CASES: [Case; 9] = [
         verdict: Verdict::Rejected {
             step: 1,
             reason: Reason::ConstantDiffers,
+        },
+    },
+    Case {
+        about: "a constant that only the key names",
+        graph: ALBUMS,
+        keys: b"\
+            key c <urn:Album>\n\
+            ?x <urn:year> \"1997\"\n\
+            end\n",
+        proof: "\
+            gkey-proof 1\n\
+            step c\n\
+            left <urn:al1> \"1997\"\n\
+            right <urn:al2> \"1997\"\n\
+            done\n\
+            end 1\n",
+        verdict: Verdict::Rejected {
+            step: 1,
+            reason: Reason::TermNotInTheGraph,
+        },
+    },
+    Case {
+        about: "a type that only another key names, in the last step",
+        graph: ALBUMS,
+        keys: b"\
+            key album_year <urn:Album>\n\
+            value $n\n\
+            value $y\n\
+            ?x <urn:name> $n\n\
+            ?x <urn:year> $y\n\
+            end\n\
+            key s <urn:Single>\n\
+            value $n\n\
+            ?x <urn:name> $n\n\
+            end\n",
+        proof: "\
+            gkey-proof 1\n\
+            step album_year\n\
+            left <urn:al1> \"Anthology 2\" \"1996\"\n\
+            right <urn:al2> \"Anthology 2\" \"1996\"\n\
+            done\n\
+            step album_year\n\
+            left <urn:al2> \"Anthology 2\" \"1996\"\n\
+            right <urn:al1> \"Anthology 2\" \"1996\"\n\
+            done\n\
+            step s\n\
+            left <urn:al1> \"Anthology 2\"\n\
+            right <urn:Single> \"Anthology 2\"\n\
+            done\n\
+            end 3\n",
+        verdict: Verdict::Rejected {
+            step: 3,
+            reason: Reason::TermNotInTheGraph,
         },
     },
 ];
