@@ -11,7 +11,7 @@ loop-key-preserved c =
     let K = c.args.patterns.now in
     record {
       none = one_more K (λ R. IsRuledOut c.args.graph.now R c.args.pair.0 c.args.pair.1) c.loop-key.key Q
-          (slice_get-get_or K c.loop-key.key Q c.loop-key-test.true ∙ ap Some (sym c.index-patterns-key.is))
+          (slice_get-get_or K c.loop-key.key Q (omega arith) ∙ ap Some (sym c.index-patterns-key.is))
           c.loop-key.invariant.none (c.are_paired_by.ensures.ruled_out c.if-are_paired_by.false);
       missing = c.are_paired_by.ensures.missing;
     }
