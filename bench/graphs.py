@@ -300,9 +300,9 @@ def line_count(path):
         return sum(1 for _ in lines)
 
 
-def parted(folder, graph):
-    """The lines of a graph in two files, of which the second has the last hundredth."""
-    first, more, count = folder / "first.nt", folder / "more.nt", line_count(graph) // 100
+def parted(folder, graph, parts=100):
+    """The lines of a graph in two files, of which the second has the last of so many parts."""
+    first, more, count = folder / "first.nt", folder / "more.nt", line_count(graph) // parts
     for command, path in (["head", "-n", f"-{count}", graph], first), (["tail", "-n", str(count), graph], more):
         with path.open("wb") as out:
             subprocess.run(command, stdout=out, check=True)

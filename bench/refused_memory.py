@@ -69,8 +69,11 @@ def on_examples(folder):
         ["check", *MUSIC, proof],
         ["convert", proof],
         ["demo", "100"],
+        ["grow", *graphs.parted(folder, MUSIC[0], parts=2), MUSIC[1]],
         ["merge", *MUSIC],
         ["why", *MUSIC, *SAME],
+        ["--help"],
+        ["--version"],
     ]
 
 
@@ -84,6 +87,7 @@ def on_a_chain(folder):
         ["check", *files, proof],
         ["convert", proof],
         ["demo", str(CHAIN)],
+        ["grow", *graphs.parted(folder, files[0]), files[1]],
         ["merge", *files],
         ["why", *files, f"<urn:a:{CHAIN - 1}>", f"<urn:b:{CHAIN - 1}>"],
     ]
@@ -192,8 +196,10 @@ def main():
     rows = []
     with tempfile.TemporaryDirectory() as name:
         folder = pathlib.Path(name)
-        refuser = Refuser(folder)
-        for words in (words for words in on_examples(folder) if words[0] in asked):
+        refuser, examples = Refuser(folder), on_examples(folder)
+        if strange := set(asked) - {words[0] for words in examples}:
+            sys.exit("no run of " + ", ".join(sorted(strange)))
+        for words in (words for words in examples if words[0] in asked):
             whole = refuser.end(words)
             rows += [told(words, what, refuser.in_turn(words, variable), whole) for what, variable in REFUSALS]
         for words in (words for words in on_a_chain(folder) if words[0] in asked):
