@@ -1,7 +1,7 @@
 ghost use Rattle.std.specs.Prelude.{All, IsTrue};
 ghost use Rattle.merge_graph.specs.MergedGraph.{IsWithin};
 
-use fixtures::texts::{ALBUMS, ALBUMS_AND_ARTISTS};
+use fixtures::texts::{ALBUMS, ALBUMS_AND_ARTISTS, ALBUMS_AND_ARTISTS_MERGED, ALBUMS_MERGED};
 use gk_base::{Limits, NoMemory, ReadStop, Term, Text};
 use merge_graph::{MergedText, merge};
 use nt_reader::Reader;
@@ -22,27 +22,13 @@ static MERGED: [Merging; 7] = [
     Merging {
         graph: ALBUMS,
         labels: &[0, 1, 2, 0, 4, 5, 6, 7],
-        merged: "\
-<urn:al1> <http://www.w3.org/1999/02/22-rdf-syntax-ns#type> <urn:Album> .
-<urn:al1> <urn:name> \"Anthology 2\" .
-<urn:al1> <urn:year> \"1996\" .
-",
+        merged: ALBUMS_MERGED,
     },
     // Two albums each, and the artists, are one.
     Merging {
         graph: ALBUMS_AND_ARTISTS,
         labels: &[0, 1, 2, 0, 4, 5, 6, 7, 9, 9, 10, 13, 12, 13, 14, 15],
-        merged: "\
-<urn:al1> <http://www.w3.org/1999/02/22-rdf-syntax-ns#type> <urn:Album> .
-<urn:al1> <urn:by> <urn:ar1> .
-<urn:al1> <urn:name> \"Anthology 2\" .
-<urn:al1> <urn:year> \"1996\" .
-<urn:al3> <http://www.w3.org/1999/02/22-rdf-syntax-ns#type> <urn:Album> .
-<urn:al3> <urn:by> <urn:ar1> .
-<urn:al3> <urn:name> \"Help!\" .
-<urn:ar1> <http://www.w3.org/1999/02/22-rdf-syntax-ns#type> <urn:Artist> .
-<urn:ar1> <urn:name> \"The Beatles\" .
-",
+        merged: ALBUMS_AND_ARTISTS_MERGED,
     },
     Merging {
         graph: b"",
