@@ -283,21 +283,29 @@ fn is_refused_at(alloc: Global, text: &[u8], line: u64, fault: LexFault) -> bool
     answers(alloc, 2000, 9, text, &expected)
 }
 
-/// What comes after the albums and leaves a string open, and the line of the string.
-static OPEN: [(&[u8], u64); 3] = [
-    (b"<urn:a> <urn:p> \"x", 7),
-    (b"\r\n<urn:a> <urn:p> \"x\ny\" .\n", 8),
-    (b"\r<urn:a> <urn:p> \"x\r\ny\" .", 8),
+/// What comes after the albums, the line of it that is refused, and why.
+static BEHIND: [(&[u8], u64, LexFault); 4] = [
+    (b"<urn:a> <urn:p> \"x", 7, LexFault::StringNotClosed),
+    (
+        b"\r\n<urn:a> <urn:p> \"x\ny\" .\n",
+        8,
+        LexFault::StringNotClosed,
+    ),
+    (
+        b"\r<urn:a> <urn:p> \"x\r\ny\" .",
+        8,
+        LexFault::StringNotClosed,
+    ),
+    (b"<a> <urn:p> \"x\" .\n", 7, LexFault::RelativeIri),
 ];
 
 #[test]
 fn files_are_refused_at_their_first_faulty_line(rt: HostRuntime) {
     let alloc = rt.alloc();
-    for (more, line) in &OPEN {
+    for (more, line, fault) in &BEHIND {
         let text = joined(alloc, files::albums(), more).expect(&rt, "enough memory");
-        assert!(rt; is_refused_at(alloc, &text, *line, LexFault::StringNotClosed));
+        assert!(rt; is_refused_at(alloc, &text, *line, *fault));
     }
-    assert!(rt; is_refused_at(alloc, files::relative(), 3, LexFault::RelativeIri));
     let (_, front) = files::ends().split_last().expect(&rt, "no file");
     assert!(rt; is_refused_at(alloc, front, 5, LexFault::DotExpected));
 }

@@ -1,8 +1,8 @@
-//! Files of several lines, and what they say.
+//! What files of several lines say.
 
 use super::Row;
 use crate::sample::Sample;
-use fixtures::texts::ALBUMS;
+use fixtures::texts::{ALBUMS, BOOKS, LINE_ENDS, SPELLINGS};
 
 /// `rdf:type`.
 const TYPE: &[u8] = b"http://www.w3.org/1999/02/22-rdf-syntax-ns#type";
@@ -41,18 +41,7 @@ static ALBUM_ROWS: [Row; 6] = [
     ),
 ];
 
-/// Two spellings each of a plain, a tagged and an escaped literal.
-static SPELLINGS: &[u8] = b"\
-        <urn:u1> <http://www.w3.org/1999/02/22-rdf-syntax-ns#type> <urn:T> .\n\
-        <urn:u1> <urn:p> \"a\" .\n\
-        <urn:u1> <urn:q> \"b\"@EN .\n\
-        <urn:u1> <urn:r> \"\\u0061c\" .\n\
-        <urn:u2> <http://www.w3.org/1999/02/22-rdf-syntax-ns#type> <urn:T> .\n\
-        <urn:u2> <urn:p> \"a\"^^<http://www.w3.org/2001/XMLSchema#string> .\n\
-        <urn:u2> <urn:q> \"b\"@en .\n\
-        <urn:u2> <urn:r> \"ac\" .\n";
-
-/// Their triples.
+/// The triples of the two spellings of three values.
 static SPELLING_ROWS: [Row; 8] = [
     (
         Sample::Iri(b"urn:u1"),
@@ -96,18 +85,7 @@ static SPELLING_ROWS: [Row; 8] = [
     ),
 ];
 
-/// Books as an exporter writes them.
-static BOOKS: &[u8] = b"\
-        # Books\n\
-        <http://ex.org/b1> <http://www.w3.org/1999/02/22-rdf-syntax-ns#type> <http://schema.org/Book> .\n\
-        <http://ex.org/b1> <http://www.w3.org/1999/02/22-rdf-syntax-ns#type> <http://schema.org/CreativeWork> .\n\
-        <http://ex.org/b1> <http://schema.org/isbn> \"9780140449136\" .\n\
-        <http://ex.org/b1> <http://schema.org/name> \"Crime and Punishment\"@en .\n\
-        _:n4 <http://www.w3.org/1999/02/22-rdf-syntax-ns#type> <http://schema.org/Book> .\n\
-        _:n4 <http://schema.org/isbn> \"9780140449136\" .\n\
-        _:n4 <http://schema.org/datePublished> \"2003-01-30\"^^<http://www.w3.org/2001/XMLSchema#date> .\n";
-
-/// Their triples.
+/// The triples of the books.
 static BOOK_ROWS: [Row; 7] = [
     (
         Sample::Iri(b"http://ex.org/b1"),
@@ -146,15 +124,7 @@ static BOOK_ROWS: [Row; 7] = [
     ),
 ];
 
-/// All ends of a line, the last line having none.
-static ENDS: &[u8] = b"\
-        <urn:a> <http://www.w3.org/1999/02/22-rdf-syntax-ns#type> <urn:T> .\r\n\
-        <urn:b> <http://www.w3.org/1999/02/22-rdf-syntax-ns#type> <urn:T> . # second\r\
-        \t \n\
-        <urn:a><urn:p>\"1\".\n\
-        <urn:b> <urn:p> \"1\".";
-
-/// Their triples.
+/// The triples of the lines with all kinds of ends.
 static END_ROWS: [Row; 4] = [
     (
         Sample::Iri(b"urn:a"),
@@ -177,16 +147,6 @@ static END_ROWS: [Row; 4] = [
         Sample::Plain(b"1"),
     ),
 ];
-
-/// Two good lines and a relative IRI.
-static RELATIVE: &[u8] = b"\
-        <urn:al1> <http://www.w3.org/1999/02/22-rdf-syntax-ns#type> <urn:Album> .\n\
-        <urn:al2> <http://www.w3.org/1999/02/22-rdf-syntax-ns#type> <urn:Album> .\n\
-        <a> <urn:p> \"x\" .\n";
-
-pub(crate) fn relative() -> &'static [u8] {
-    RELATIVE
-}
 
 pub(crate) fn albums() -> &'static [u8] {
     ALBUMS
@@ -213,7 +173,7 @@ pub(crate) fn book_rows() -> &'static [Row] {
 }
 
 pub(crate) fn ends() -> &'static [u8] {
-    ENDS
+    LINE_ENDS
 }
 
 pub(crate) fn end_rows() -> &'static [Row] {
