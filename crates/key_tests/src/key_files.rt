@@ -12,6 +12,9 @@ pub(crate) enum Says {
     Refused(u64, KeyFault),
 }
 
+/// A key of one constant, in the canonical text.
+pub(crate) const ONE_CONSTANT: &[u8] = b"key k <urn:T>\n?x <urn:p> \"1\"\nend\n";
+
 fn has_text(alloc: Global, keys: &KeyFile, text: &[u8]) -> Result<bool, NoMemory> {
     let mut buf = Vec::new(alloc);
     put_keys(&mut buf, keys)?;
@@ -50,26 +53,10 @@ fn each_file_says_its_keys_or_its_first_fault(rt: HostRuntime) -> Result<(), Fai
 
 /// A good key file, and one whose first line ends with CR LF.
 static LIMITED: [(&[u8], u32, Says); 9] = [
-    (
-        b"key k <urn:T>\n?x <urn:p> \"1\"\nend\n",
-        33,
-        Says::Keys(b"key k <urn:T>\n?x <urn:p> \"1\"\nend\n"),
-    ),
-    (
-        b"key k <urn:T>\n?x <urn:p> \"1\"\nend\n",
-        32,
-        Says::Refused(3, KeyFault::FileTooLong),
-    ),
-    (
-        b"key k <urn:T>\n?x <urn:p> \"1\"\nend\n",
-        29,
-        Says::Refused(3, KeyFault::FileTooLong),
-    ),
-    (
-        b"key k <urn:T>\n?x <urn:p> \"1\"\nend\n",
-        28,
-        Says::Refused(2, KeyFault::FileTooLong),
-    ),
+    (ONE_CONSTANT, 33, Says::Keys(ONE_CONSTANT)),
+    (ONE_CONSTANT, 32, Says::Refused(3, KeyFault::FileTooLong)),
+    (ONE_CONSTANT, 29, Says::Refused(3, KeyFault::FileTooLong)),
+    (ONE_CONSTANT, 28, Says::Refused(2, KeyFault::FileTooLong)),
     (b"foo\nbar", 3, Says::Refused(1, KeyFault::FileTooLong)),
     (b"foo\nbar", 4, Says::Refused(1, KeyFault::UnknownStatement)),
     (b"# c\r\n", 4, Says::Refused(1, KeyFault::FileTooLong)),

@@ -1,17 +1,11 @@
 use chase_laws::{Edge, Pattern, Slot};
+use fixtures::texts::{ALBUM_KEY, BASE_AND_LINK_KEYS};
 use gk_base::{NoMemory, Term, Text};
 use key_file::{KeyDef, KeyEdge, KeyFile, KeySlot, compile, is_connected, is_used};
 use key_lang::read_keys;
 use std::alloc::Global;
 use std::test::Fail;
 use term_table::Names;
-
-const LINK: &[u8] =
-    b"key link <urn:T>\nentity ?y <urn:T>\nvalue $n\n?x <urn:name> $n\n?x <urn:next> ?y\nend\n";
-
-const DEMO: &[u8] =
-    b"key base <urn:T>\nvalue $n\nvalue $c\n?x <urn:name> $n\n?x <urn:code> $c\nend\n\
-    key link <urn:T>\nentity ?y <urn:T>\nvalue $n\n?x <urn:name> $n\n?x <urn:next> ?y\nend\n";
 
 const EVERY: &[u8] = b"key every <urn:T>\nany _w <urn:W>\nvalue $v\nfolded $f\n\
     ?x <urn:p> _w\n_w <urn:q> $v\n?x <urn:r> $f\n_w <urn:p> \"1\"\nend\n";
@@ -33,7 +27,7 @@ struct Case {
 static CASES: [Case; 4] = [
     Case {
         about: "keys whose terms are names add none",
-        keys: DEMO,
+        keys: BASE_AND_LINK_KEYS,
         known: &[
             (b"urn:a:0", false),
             (b"http://www.w3.org/1999/02/22-rdf-syntax-ns#type", false),
@@ -62,7 +56,7 @@ static CASES: [Case; 4] = [
     },
     Case {
         about: "keys share the numbers of their terms",
-        keys: DEMO,
+        keys: BASE_AND_LINK_KEYS,
         known: &[],
         names: 4,
         patterns: &[
@@ -202,12 +196,12 @@ fn add(keys: &mut KeyFile, key: KeyDef) -> Result<bool, NoMemory> {
 fn a_file_has_each_name_once(rt: HostRuntime) -> Result<(), Fail> {
     let alloc = rt.alloc();
     assert!(rt; KeyFile::new(alloc).is_empty());
-    let mut keys = read_keys(alloc, LINK, 1 << 20)?;
+    let mut keys = read_keys(alloc, ALBUM_KEY, 1 << 20)?;
     assert!(rt; add(&mut keys, base(alloc)?)?);
     assert!(rt; !add(&mut keys, base(alloc)?)?);
     assert!(rt; keys.len() == 2 && !keys.is_empty());
-    assert!(rt; keys.has_name(b"link") && keys.has_name(b"base"));
-    assert!(rt; !keys.has_name(b"lin"));
+    assert!(rt; keys.has_name(b"album_year") && keys.has_name(b"base"));
+    assert!(rt; !keys.has_name(b"album"));
     Ok(())
 }
 

@@ -1,6 +1,7 @@
 //! Whole key files, each with its answer by hand.
 
-use super::Says;
+use super::{ONE_CONSTANT, Says};
+use fixtures::texts::{ALBUM_AND_ARTIST_KEYS, BASE_AND_LINK_KEYS};
 use key_lang::KeyFault;
 
 /// Key files, and what they say.
@@ -268,15 +269,15 @@ static FILES: [(&[u8], Says); 103] = [
     ),
     (
         b"key k <urn:T>\n?x <urn:p> \"1\"\nend",
-        Says::Keys(b"key k <urn:T>\n?x <urn:p> \"1\"\nend\n"),
+        Says::Keys(ONE_CONSTANT),
     ),
     (
         b"\tkey\tk\t<urn:T>\t# c\n ?x\t<urn:p>\"1\"# c\n\tend\t#\n",
-        Says::Keys(b"key k <urn:T>\n?x <urn:p> \"1\"\nend\n"),
+        Says::Keys(ONE_CONSTANT),
     ),
     (
         b"key k <urn:T>\r\n?x <urn:p> \"1\"\rend\r\n",
-        Says::Keys(b"key k <urn:T>\n?x <urn:p> \"1\"\nend\n"),
+        Says::Keys(ONE_CONSTANT),
     ),
     (b"\r\r\nfoo", Says::Refused(3, KeyFault::UnknownStatement)),
     (
@@ -287,11 +288,11 @@ static FILES: [(&[u8], Says); 103] = [
     ),
     (
         b"key k <urn:\\u0054>\n?x <urn:p> \"\\u0031\"\nend\n",
-        Says::Keys(b"key k <urn:T>\n?x <urn:p> \"1\"\nend\n"),
+        Says::Keys(ONE_CONSTANT),
     ),
     (
         b"key k <urn:T>\n?x <urn:p> \"1\"^^<http://www.w3.org/2001/XMLSchema#string>\nend\n",
-        Says::Keys(b"key k <urn:T>\n?x <urn:p> \"1\"\nend\n"),
+        Says::Keys(ONE_CONSTANT),
     ),
     (
         b"key k <urn:T>\n?x <urn:p> \"a\"@EN\n?x <urn:p> \"1\"^^<urn:d>\nend\n",
@@ -313,18 +314,8 @@ static FILES: [(&[u8], Says); 103] = [
         b"key k <urn:T>\n?x <urn:p> ?x\nend\nkey k2 <urn:T>\n?x <urn:p> ?x\nend\n",
         Says::Keys(b"key k <urn:T>\n?x <urn:p> ?x\nend\nkey k2 <urn:T>\n?x <urn:p> ?x\nend\n"),
     ),
-    (
-        b"key album_year <urn:Album>\nvalue $n\nvalue $y\n?x <urn:name> $n\n?x <urn:year> $y\nend\nkey artist <urn:Artist>\nentity ?y <urn:Album>\nvalue $n\n?x <urn:name> $n\n?y <urn:by> ?x\nend\nkey album_by <urn:Album>\nentity ?y <urn:Artist>\nvalue $n\n?x <urn:name> $n\n?x <urn:by> ?y\nend\n",
-        Says::Keys(
-            b"key album_year <urn:Album>\nvalue $n\nvalue $y\n?x <urn:name> $n\n?x <urn:year> $y\nend\nkey artist <urn:Artist>\nentity ?y <urn:Album>\nvalue $n\n?x <urn:name> $n\n?y <urn:by> ?x\nend\nkey album_by <urn:Album>\nentity ?y <urn:Artist>\nvalue $n\n?x <urn:name> $n\n?x <urn:by> ?y\nend\n",
-        ),
-    ),
-    (
-        b"key base <urn:T>\nvalue $n\nvalue $c\n?x <urn:name> $n\n?x <urn:code> $c\nend\nkey link <urn:T>\nentity ?y <urn:T>\nvalue $n\n?x <urn:name> $n\n?x <urn:next> ?y\nend\n",
-        Says::Keys(
-            b"key base <urn:T>\nvalue $n\nvalue $c\n?x <urn:name> $n\n?x <urn:code> $c\nend\nkey link <urn:T>\nentity ?y <urn:T>\nvalue $n\n?x <urn:name> $n\n?x <urn:next> ?y\nend\n",
-        ),
-    ),
+    (ALBUM_AND_ARTIST_KEYS, Says::Keys(ALBUM_AND_ARTIST_KEYS)),
+    (BASE_AND_LINK_KEYS, Says::Keys(BASE_AND_LINK_KEYS)),
     (
         b"key k <urn:T>\n?x <urn:p> <urn:c\n",
         Says::Refused(2, KeyFault::BadIri),
