@@ -1,9 +1,11 @@
 //! Proof files that are refused, each at a line and for a fault that were found by hand.
 
+use super::{ONE_STEP, ONE_STEP_1};
+use fixtures::texts::{ALBUM_AND_ARTIST_PROOF, ALBUM_AND_ARTIST_PROOF_1};
 use gk_base::LexFault;
 use proof_graph::ProofFault;
 
-/// What comes after the front of a file, the line that is refused, and why.
+/// What comes after good lines, the line that is refused, and why.
 pub(crate) type Refused = (&'static [u8], u64, ProofFault);
 
 /// Files that have no good first line, or nothing after it.
@@ -324,47 +326,23 @@ static LATER: [Refused; 6] = [
     (b"done\n", 8, ProofFault::FileEndsInsideAProof),
 ];
 
-/// Fronts of files, whose lines are all good, and what may not come after them. A function hands them out, so that no proof
+/// Proofs, how many of their lines come first, and what may not come after these. A function hands them out, so that no proof
 /// looks into the tables.
-pub(super) fn all() -> [(&'static [u8], &'static [Refused]); 14] {
+pub(super) fn all() -> [(&'static str, usize, &'static [Refused]); 14] {
     [
-        (b"", &HEADER),
-        (b"gkey-proof 1\n", &STEP),
-        (b"gkey-proof 1\nstep k\n", &LEFT),
-        (b"gkey-proof 1\nstep k\nleft <urn:a> \"1\"\n", &RIGHT),
-        (
-            b"gkey-proof 1\nstep k\nleft <urn:a> \"1\"\nright <urn:b> \"1\"\n",
-            &SUPPORT,
-        ),
-        (
-            b"gkey-proof 1\nstep k\nleft <urn:a> \"1\"\nright <urn:b> \"1\"\ndone\n",
-            &NEXT,
-        ),
-        (
-            b"gkey-proof 1\nstep k\nleft <urn:a> \"1\"\nright <urn:b> \"1\"\ndone\nend 1\n",
-            &OVER,
-        ),
-        (b"gkey-proof 2\n", &COUNT),
-        (b"gkey-proof 2\nterms 2\n", &TERM),
-        (
-            b"gkey-proof 2\nterms 2\n<urn:a>\n\"1\"\nstep k\n",
-            &LEFT_NUMBERS,
-        ),
-        (
-            b"gkey-proof 2\nterms 2\n<urn:a>\n\"1\"\nstep k\nleft 1 2\n",
-            &RIGHT_NUMBERS,
-        ),
-        (
-            b"gkey-proof 1\nstep album_year\nleft <urn:al1> \"Anthology 2\" \"1996\"\nright <urn:al2> \"Anthology 2\" \"1996\"\ndone\nstep artist\nleft <urn:ar1> <urn:al1> \"The Beatles\"\nright <urn:ar2> <urn:al2> \"The Beatles\"\nby 1 1\ndone\nstep album_by\nleft <urn:al3> <urn:ar1> \"Help!\"\nright <urn:al4> <urn:ar2> \"Help!\"\nby 1 2\ndone\n",
-            &ALBUMS,
-        ),
-        (
-            b"gkey-proof 2\nterms 10\n<urn:al1>\n\"Anthology 2\"\n\"1996\"\n<urn:al2>\n<urn:ar1>\n\"The Beatles\"\n<urn:ar2>\n<urn:al3>\n\"Help!\"\n<urn:al4>\nstep album_year\nleft 1 2 3\nright 4 2 3\ndone\nstep artist\nleft 5 1 6\nright 7 4 6\nby 1 1\ndone\nstep album_by\nleft 8 5 9\n",
-            &ALBUM_NUMBERS,
-        ),
-        (
-            b"gkey-proof 2\nterms 2\n<urn:a>\n\"1\"\nstep k\nleft 1 2\nright 2 1\n",
-            &LATER,
-        ),
+        ("", 0, &HEADER),
+        (ONE_STEP_1, 1, &STEP),
+        (ONE_STEP_1, 2, &LEFT),
+        (ONE_STEP_1, 3, &RIGHT),
+        (ONE_STEP_1, 4, &SUPPORT),
+        (ONE_STEP_1, 5, &NEXT),
+        (ONE_STEP_1, 6, &OVER),
+        (ONE_STEP, 1, &COUNT),
+        (ONE_STEP, 2, &TERM),
+        (ONE_STEP, 5, &LEFT_NUMBERS),
+        (ONE_STEP, 6, &RIGHT_NUMBERS),
+        (ONE_STEP, 7, &LATER),
+        (ALBUM_AND_ARTIST_PROOF_1, 15, &ALBUMS),
+        (ALBUM_AND_ARTIST_PROOF, 23, &ALBUM_NUMBERS),
     ]
 }

@@ -2,186 +2,90 @@
 
 use super::Case;
 use fixtures::texts::{
-    ALBUM_AND_ARTIST_KEYS, ALBUM_KEY, ALBUM_PROOF, ALBUM_PROOF_1, ALBUMS, ALBUMS_AND_ARTISTS,
+    ALBUM_AND_ARTIST_KEYS, ALBUM_AND_ARTIST_PROOF, ALBUM_KEY, ALBUM_PROOF, ALBUM_PROOF_1, ALBUMS,
+    ALBUMS_AND_ARTISTS, ANOTHER_YEAR, ANOTHER_YEAR_PROOF_1, NO_STEPS, NO_STEPS_1, YEAR_KEY,
 };
 use proof_check::{Reason, Verdict};
 
+/// The two albums.
+const ALBUMS_ALONE: Case = Case {
+    about: "two albums alone",
+    graph: ALBUMS,
+    more: b"",
+    keys: ALBUM_KEY,
+    proof: ALBUM_PROOF,
+    verdict: Verdict::Accepted { steps: 1 },
+};
+
 /// Graphs, keys and proofs.
-static CASES: [Case; 11] = [
-    Case {
-        about: "the albums' graph in another order and with repeats",
-        graph: b"\
-            <urn:al4> <urn:by> <urn:ar2> .\n\
-            <urn:al3> <urn:by> <urn:ar1> .\n\
-            <urn:al2> <urn:by> <urn:ar2> .\n\
-            <urn:al1> <urn:by> <urn:ar1> .\n\
-            <urn:ar2> <urn:name> \"The Beatles\" .\n\
-            <urn:ar1> <urn:name> \"The Beatles\" .\n\
-            <urn:ar2> <http://www.w3.org/1999/02/22-rdf-syntax-ns#type> <urn:Artist> .\n\
-            <urn:ar1> <http://www.w3.org/1999/02/22-rdf-syntax-ns#type> <urn:Artist> .\n\
-            <urn:al4> <urn:name> \"Help!\" .\n\
-            <urn:al3> <urn:name> \"Help!\" .\n\
-            <urn:al4> <http://www.w3.org/1999/02/22-rdf-syntax-ns#type> <urn:Album> .\n\
-            <urn:al3> <http://www.w3.org/1999/02/22-rdf-syntax-ns#type> <urn:Album> .\n\
-            <urn:al2> <urn:year> \"1996\" .\n\
-            <urn:al1> <urn:year> \"1996\" .\n\
-            <urn:al2> <urn:name> \"Anthology 2\" .\n\
-            <urn:al1> <urn:name> \"Anthology 2\" .\n\
-            <urn:al2> <http://www.w3.org/1999/02/22-rdf-syntax-ns#type> <urn:Album> .\n\
-            <urn:al1> <http://www.w3.org/1999/02/22-rdf-syntax-ns#type> <urn:Album> .\n\
-            <urn:al1> <http://www.w3.org/1999/02/22-rdf-syntax-ns#type> <urn:Album> .\n\
-            <urn:al2> <http://www.w3.org/1999/02/22-rdf-syntax-ns#type> <urn:Album> .\n\
-            <urn:al1> <urn:name> \"Anthology 2\" .\n\
-            <urn:al2> <urn:name> \"Anthology 2\" .\n\
-            <urn:al1> <urn:year> \"1996\" .\n",
-        keys: ALBUM_AND_ARTIST_KEYS,
-        proof: "\
-            gkey-proof 1\n\
-            step album_year\n\
-            left <urn:al1> \"Anthology 2\" \"1996\"\n\
-            right <urn:al2> \"Anthology 2\" \"1996\"\n\
-            done\n\
-            step artist\n\
-            left <urn:ar1> <urn:al1> \"The Beatles\"\n\
-            right <urn:ar2> <urn:al2> \"The Beatles\"\n\
-            by 1 1\n\
-            done\n\
-            step album_by\n\
-            left <urn:al3> <urn:ar1> \"Help!\"\n\
-            right <urn:al4> <urn:ar2> \"Help!\"\n\
-            by 1 2\n\
-            done\n\
-            end 3\n",
-        verdict: Verdict::Accepted { steps: 3 },
-    },
+static CASES: [Case; 10] = [
     Case {
         about: "the albums' proof in version 2",
         graph: ALBUMS_AND_ARTISTS,
         keys: ALBUM_AND_ARTIST_KEYS,
-        proof: "\
-            gkey-proof 2\n\
-            terms 10\n\
-            <urn:al1>\n\
-            \"Anthology 2\"\n\
-            \"1996\"\n\
-            <urn:al2>\n\
-            <urn:ar1>\n\
-            \"The Beatles\"\n\
-            <urn:ar2>\n\
-            <urn:al3>\n\
-            \"Help!\"\n\
-            <urn:al4>\n\
-            step album_year\n\
-            left 1 2 3\n\
-            right 4 2 3\n\
-            done\n\
-            step artist\n\
-            left 5 1 6\n\
-            right 7 4 6\n\
-            by 1 1\n\
-            done\n\
-            step album_by\n\
-            left 8 5 9\n\
-            right 10 7 9\n\
-            by 1 2\n\
-            done\n\
-            end 3\n",
+        proof: ALBUM_AND_ARTIST_PROOF,
         verdict: Verdict::Accepted { steps: 3 },
+        ..ALBUMS_ALONE
     },
     Case {
         about: "a proof without steps",
         graph: b"",
-        keys: ALBUM_KEY,
-        proof: "\
-            gkey-proof 1\n\
-            end 0\n",
+        proof: NO_STEPS_1,
         verdict: Verdict::Accepted { steps: 0 },
+        ..ALBUMS_ALONE
     },
     Case {
         about: "a proof without steps, and no keys",
         graph: b"",
         keys: b"",
-        proof: "\
-            gkey-proof 2\n\
-            terms 0\n\
-            end 0\n",
+        proof: NO_STEPS,
         verdict: Verdict::Accepted { steps: 0 },
+        ..ALBUMS_ALONE
     },
-    Case {
-        about: "two albums alone",
-        graph: ALBUMS,
-        keys: ALBUM_KEY,
-        proof: ALBUM_PROOF,
-        verdict: Verdict::Accepted { steps: 1 },
-    },
+    ALBUMS_ALONE,
     Case {
         about: "a step without a key",
-        graph: ALBUMS,
         keys: b"",
         proof: ALBUM_PROOF_1,
         verdict: Verdict::Rejected {
             step: 1,
             reason: Reason::UnknownKey,
         },
+        ..ALBUMS_ALONE
     },
     Case {
         about: "a step in an empty graph",
         graph: b"",
-        keys: ALBUM_KEY,
         proof: ALBUM_PROOF_1,
         verdict: Verdict::Rejected {
             step: 1,
             reason: Reason::TermNotInTheGraph,
         },
+        ..ALBUMS_ALONE
     },
     Case {
         about: "another term at a constant, without its triple",
-        graph: ALBUMS,
-        keys: b"\
-            key c <urn:Album>\n\
-            ?x <urn:year> \"1996\"\n\
-            end\n",
-        proof: "\
-            gkey-proof 1\n\
-            step c\n\
-            left <urn:al1> \"Anthology 2\"\n\
-            right <urn:al2> \"1996\"\n\
-            done\n\
-            end 1\n",
+        keys: YEAR_KEY,
+        proof: ANOTHER_YEAR_PROOF_1,
         verdict: Verdict::Rejected {
             step: 1,
             reason: Reason::TripleMissing,
         },
+        ..ALBUMS_ALONE
     },
     Case {
         about: "another term at a constant, with its triple",
-        graph: b"\
-            <urn:al1> <http://www.w3.org/1999/02/22-rdf-syntax-ns#type> <urn:Album> .\n\
-            <urn:al2> <http://www.w3.org/1999/02/22-rdf-syntax-ns#type> <urn:Album> .\n\
-            <urn:al1> <urn:name> \"Anthology 2\" .\n\
-            <urn:al2> <urn:name> \"Anthology 2\" .\n\
-            <urn:al1> <urn:year> \"1996\" .\n\
-            <urn:al2> <urn:year> \"1996\" .\n\
-            <urn:al1> <urn:year> \"Anthology 2\" .\n",
-        keys: b"\
-            key c <urn:Album>\n\
-            ?x <urn:year> \"1996\"\n\
-            end\n",
-        proof: "\
-            gkey-proof 1\n\
-            step c\n\
-            left <urn:al1> \"Anthology 2\"\n\
-            right <urn:al2> \"1996\"\n\
-            done\n\
-            end 1\n",
+        more: ANOTHER_YEAR,
+        keys: YEAR_KEY,
+        proof: ANOTHER_YEAR_PROOF_1,
         verdict: Verdict::Rejected {
             step: 1,
             reason: Reason::ConstantDiffers,
         },
+        ..ALBUMS_ALONE
     },
     Case {
         about: "a constant that only the key names",
-        graph: ALBUMS,
         keys: b"\
             key c <urn:Album>\n\
             ?x <urn:year> \"1997\"\n\
@@ -197,10 +101,10 @@ static CASES: [Case; 11] = [
             step: 1,
             reason: Reason::TermNotInTheGraph,
         },
+        ..ALBUMS_ALONE
     },
     Case {
         about: "a type that only another key names, in the last step",
-        graph: ALBUMS,
         keys: b"\
             key album_year <urn:Album>\n\
             value $n\n\
@@ -231,10 +135,16 @@ static CASES: [Case; 11] = [
             step: 3,
             reason: Reason::TermNotInTheGraph,
         },
+        ..ALBUMS_ALONE
     },
 ];
 
 /// The cases. A function hands them out, so that no proof looks into the table.
 pub(super) fn all() -> &'static [Case] {
     &CASES
+}
+
+/// The graph of the two albums. Its triples are among those of the four albums and their artists.
+pub(super) fn two_albums() -> &'static [u8] {
+    ALBUMS
 }

@@ -83,25 +83,25 @@ static KEYS: &[u8] = b"\
         end\n";
 
 /// The two chains are the same, link by link.
-static LINES: [&[u8]; 17] = [
-    b"gkey-proof 1\n",
-    b"step k\n",
-    b"left <urn:a1> <urn:a0> _:w1 \"n\" \"Strasse\" \"c\"\n",
-    b"right <urn:a2> <urn:a0> _:w2 \"n\" \"stra\xC3\x9Fe\" \"c\"\n",
-    b"by 1\n",
-    b"done\n",
-    b"step k\n",
-    b"left <urn:a3> <urn:a1> _:w1 \"n\" \"Strasse\" \"c\"\n",
-    b"right <urn:a4> <urn:a2> _:w2 \"n\" \"stra\xC3\x9Fe\" \"c\"\n",
-    b"by 1 1\n",
-    b"done\n",
-    b"step k\n",
-    b"left <urn:a5> <urn:a3> _:w1 \"n\" \"Strasse\" \"c\"\n",
-    b"right <urn:a6> <urn:a4> _:w2 \"n\" \"stra\xC3\x9Fe\" \"c\"\n",
-    b"by 1 2\n",
-    b"done\n",
-    b"end 3\n",
-];
+static PROOF: &str = "\
+gkey-proof 1
+step k
+left <urn:a1> <urn:a0> _:w1 \"n\" \"Strasse\" \"c\"
+right <urn:a2> <urn:a0> _:w2 \"n\" \"stra\u{DF}e\" \"c\"
+by 1
+done
+step k
+left <urn:a3> <urn:a1> _:w1 \"n\" \"Strasse\" \"c\"
+right <urn:a4> <urn:a2> _:w2 \"n\" \"stra\u{DF}e\" \"c\"
+by 1 1
+done
+step k
+left <urn:a5> <urn:a3> _:w1 \"n\" \"Strasse\" \"c\"
+right <urn:a6> <urn:a4> _:w2 \"n\" \"stra\u{DF}e\" \"c\"
+by 1 2
+done
+end 3
+";
 
 /// Changes after which the proof is rejected, with the step and the reason.
 static REJECTED: [Rejected; 66] = [
@@ -443,7 +443,7 @@ pub(super) fn chain() -> Judged {
     Judged {
         graph: GRAPH,
         keys: KEYS,
-        lines: &LINES,
+        proof: PROOF,
         rejected: &REJECTED,
         accepted: &ACCEPTED,
     }

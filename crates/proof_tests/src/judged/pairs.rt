@@ -39,24 +39,24 @@ static KEYS: &[u8] = b"\
         end\n";
 
 /// The others are the same, and so are the two.
-static LINES: [&[u8]; 16] = [
-    b"gkey-proof 1\n",
-    b"step named\n",
-    b"left <urn:y1> \"y\"\n",
-    b"right <urn:y2> \"y\"\n",
-    b"done\n",
-    b"step named\n",
-    b"left <urn:z2> \"z\"\n",
-    b"right <urn:z1> \"z\"\n",
-    b"done\n",
-    b"step two\n",
-    b"left <urn:x1> <urn:w> <urn:y1> <urn:z1>\n",
-    b"right <urn:x2> <urn:w> <urn:y2> <urn:z2>\n",
-    b"by 2 1\n",
-    b"by 3 2\n",
-    b"done\n",
-    b"end 3\n",
-];
+static PROOF: &str = "\
+gkey-proof 1
+step named
+left <urn:y1> \"y\"
+right <urn:y2> \"y\"
+done
+step named
+left <urn:z2> \"z\"
+right <urn:z1> \"z\"
+done
+step two
+left <urn:x1> <urn:w> <urn:y1> <urn:z1>
+right <urn:x2> <urn:w> <urn:y2> <urn:z2>
+by 2 1
+by 3 2
+done
+end 3
+";
 
 /// Changes after which the proof is rejected, with the step and the reason.
 static REJECTED: [Rejected; 10] = [
@@ -103,7 +103,7 @@ pub(super) fn pairs() -> Judged {
     Judged {
         graph: GRAPH,
         keys: KEYS,
-        lines: &LINES,
+        proof: PROOF,
         rejected: &REJECTED,
         accepted: &ACCEPTED,
     }
