@@ -2,27 +2,12 @@
 
 use crate::runs::{Case, MERGE, holds, printed, usage};
 use fixtures::texts::{
-    ALBUM_AND_ARTIST_KEYS, ALBUM_KEY, ALBUMS, ONE_VALUE, THREE_CLASSES, TWO_VALUES,
+    ALBUM_AND_ARTIST_KEYS, ALBUM_KEY, ALBUMS, ALBUMS_AND_ARTISTS, ONE_VALUE, THREE_CLASSES,
+    TWO_VALUES,
 };
 use gk_base::Limits;
 use std::sync::atomic::{AtomicU64, Ordering};
 use steal_pool::Gate;
-
-/// What makes the two albums four by two artists: one pair of albums more of one name, and two artists of one name.
-const MORE_ALBUMS: &[u8] = b"\
-<urn:al3> <http://www.w3.org/1999/02/22-rdf-syntax-ns#type> <urn:Album> .
-<urn:al4> <http://www.w3.org/1999/02/22-rdf-syntax-ns#type> <urn:Album> .
-<urn:ar1> <http://www.w3.org/1999/02/22-rdf-syntax-ns#type> <urn:Artist> .
-<urn:ar2> <http://www.w3.org/1999/02/22-rdf-syntax-ns#type> <urn:Artist> .
-<urn:al3> <urn:name> \"Help!\" .
-<urn:al4> <urn:name> \"Help!\" .
-<urn:ar1> <urn:name> \"The Beatles\" .
-<urn:ar2> <urn:name> \"The Beatles\" .
-<urn:al1> <urn:by> <urn:ar1> .
-<urn:al2> <urn:by> <urn:ar2> .
-<urn:al3> <urn:by> <urn:ar1> .
-<urn:al4> <urn:by> <urn:ar2> .
-";
 
 /// Two entities with one value, of which one has a type.
 const ONE_TYPE: &[u8] = b"\
@@ -88,8 +73,7 @@ fn refused() -> Case<'static> {
 }
 
 /// Graphs, what is added to them, keys, and the report.
-static GROWN: [(&[u8], &[u8], &[u8], &str); 7] = [
-    (ALBUMS, MORE_ALBUMS, ALBUM_AND_ARTIST_KEYS, THREE_CLASSES),
+static GROWN: [(&[u8], &[u8], &[u8], &str); 6] = [
     (ALBUMS, b"", ALBUM_KEY, ONE_CLASS),
     (b"", ALBUMS, ALBUM_KEY, ONE_CLASS),
     (b"", b"", ALBUM_KEY, ""),
@@ -116,15 +100,25 @@ fn the_report_is_that_of_both_graphs(rt: HostRuntime) {
     }
 }
 
+/// Four albums by two artists. The lines of the two albums come first.
+fn albums_and_artists() -> &'static [u8] {
+    ALBUMS_AND_ARTISTS
+}
+
 #[test]
 fn graphs_grow_the_same_with_any_workers(rt: HostRuntime) {
+    let more = albums_and_artists().strip_prefix(grow().graph);
+    let four = Case {
+        more: more.expect(&rt, "the two albums first"),
+        keys: ALBUM_AND_ARTIST_KEYS,
+        out: THREE_CLASSES,
+        ..grow()
+    };
+    assert!(rt; holds(&rt, &four));
     for workers in ["1", "3", "64"] {
         let case = Case {
             words: &["grow", "--workers", workers, "g", "m", "k"],
-            more: MORE_ALBUMS,
-            keys: ALBUM_AND_ARTIST_KEYS,
-            out: THREE_CLASSES,
-            ..grow()
+            ..four
         };
         assert!(rt; holds(&rt, &case), "{workers} workers");
     }

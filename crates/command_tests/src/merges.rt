@@ -2,23 +2,11 @@
 
 use crate::runs::{Case, MERGE, holds, merge, printed};
 use fixtures::texts::{
-    ALBUM_AND_ARTIST_KEYS, ALBUM_KEY, ALBUMS, ALBUMS_AND_ARTISTS, ALBUMS_MERGED, ONE_VALUE,
+    ALBUM_AND_ARTIST_KEYS, ALBUM_KEY, ALBUMS, ALBUMS_AND_ARTISTS, ALBUMS_AND_ARTISTS_MERGED,
+    ALBUMS_MERGED, ONE_VALUE,
 };
 use gk_base::Limits;
 use steal_pool::OpenGate;
-
-/// The four albums and two artists, of which each two are the same.
-const FOUR_ALBUMS_MERGED: &str = "\
-<urn:al1> <http://www.w3.org/1999/02/22-rdf-syntax-ns#type> <urn:Album> .
-<urn:al1> <urn:by> <urn:ar1> .
-<urn:al1> <urn:name> \"Anthology 2\" .
-<urn:al1> <urn:year> \"1996\" .
-<urn:al3> <http://www.w3.org/1999/02/22-rdf-syntax-ns#type> <urn:Album> .
-<urn:al3> <urn:by> <urn:ar1> .
-<urn:al3> <urn:name> \"Help!\" .
-<urn:ar1> <http://www.w3.org/1999/02/22-rdf-syntax-ns#type> <urn:Artist> .
-<urn:ar1> <urn:name> \"The Beatles\" .
-";
 
 /// The two albums, sorted.
 const ALBUMS_SORTED: &str = "\
@@ -53,7 +41,7 @@ static MERGED: [(&[u8], &[u8], &str); 5] = [
     (
         ALBUMS_AND_ARTISTS,
         ALBUM_AND_ARTIST_KEYS,
-        FOUR_ALBUMS_MERGED,
+        ALBUMS_AND_ARTISTS_MERGED,
     ),
     (BLANK_NODES, ONE_VALUE, BLANK_NODES_MERGED),
 ];
@@ -67,7 +55,7 @@ fn merge_of_four() -> Case<'static> {
     Case {
         graph: ALBUMS_AND_ARTISTS,
         keys: ALBUM_AND_ARTIST_KEYS,
-        out: FOUR_ALBUMS_MERGED,
+        out: ALBUMS_AND_ARTISTS_MERGED,
         ..MERGE
     }
 }

@@ -1,15 +1,14 @@
 //! Proofs for two entities, and why there is none.
 
 use crate::runs::{Case, ENOUGH, MERGE, holds, leaves, printed, texts, usage};
-use fixtures::texts::{ALBUM_AND_ARTIST_KEYS, ALBUM_KEY, ALBUM_PROOF, ALBUMS_AND_ARTISTS};
+use fixtures::texts::{
+    ALBUM_AND_ARTIST_KEYS, ALBUM_KEY, ALBUM_PROOF, ALBUMS_AND_ARTISTS, NO_STEPS,
+};
 use gk_base::{Limits, Text};
 use std::process::Abort;
 use std::sync::Wait;
 use std::thread::Threads;
 use steal_pool::OpenGate;
-
-/// The proof of nothing.
-const NO_STEPS: &str = "gkey-proof 2\nterms 0\nend 0\n";
 
 const NOT_THE_SAME: &str = "not the same\n";
 

@@ -1,7 +1,7 @@
 //! Runs over the files `g`, `m`, `k` and `p` in memory, where the call fails that a case names, and that for a file that is not
 //! there.
 
-use fixtures::texts::{ALBUM_KEY, ALBUMS, ALBUMS_MERGED};
+use fixtures::texts::{ALBUM_KEY, ALBUMS, ALBUMS_MERGED, USAGE};
 use gk_base::{Limits, NoMemory, Text};
 use gk_io::{MemShelf, SureSink};
 use gkey_cmd::run_gated;
@@ -29,7 +29,7 @@ pub struct Case<'a> {
 
 /// The error text of words that ask for no command.
 pub fn usage() -> &'static str {
-    "usage:\n  gkey match [--workers N] GRAPH KEYS\n  gkey prove [--workers N] GRAPH KEYS\n  gkey check GRAPH KEYS PROOF\n  gkey convert PROOF\n  gkey demo N\n  gkey grow [--workers N] GRAPH MORE KEYS\n  gkey merge [--workers N] GRAPH KEYS\n  gkey why [--workers N] GRAPH KEYS A B\n  gkey --help\n  gkey --version\n"
+    USAGE
 }
 
 /// A merge of two albums with one name and one year, in constants. Functions take `merge`, which shows their proofs none of its
