@@ -1,24 +1,11 @@
 //! Graphs in all forms of N-Triples, and graphs that are refused.
 
 use crate::runs::{Case, ENOUGH, GOOD, good, holds};
-use crate::texts::albums;
-use fixtures::texts::{ALBUMS, ONE_VALUE};
-use gk_base::NoMemory;
-use std::alloc::Global;
+use crate::texts::{albums, joined, line_ends};
+use fixtures::texts::{ALBUMS, BOOKS, LINE_ENDS, ONE_VALUE, SPELLINGS};
 use std::process::Abort;
 use std::sync::Wait;
 use std::thread::Threads;
-
-const ALIKE: &[u8] = b"\
-<urn:u1> <http://www.w3.org/1999/02/22-rdf-syntax-ns#type> <urn:T> .
-<urn:u2> <http://www.w3.org/1999/02/22-rdf-syntax-ns#type> <urn:T> .
-<urn:u1> <urn:p> \"a\" .
-<urn:u1> <urn:q> \"b\"@EN .
-<urn:u1> <urn:r> \"\\u0061c\" .
-<urn:u2> <urn:p> \"a\"^^<http://www.w3.org/2001/XMLSchema#string> .
-<urn:u2> <urn:q> \"b\"@en .
-<urn:u2> <urn:r> \"ac\" .
-";
 
 const THREE_VALUES: &[u8] = b"\
 key k <urn:T>
@@ -29,30 +16,6 @@ value $r
 ?x <urn:q> $q
 ?x <urn:r> $r
 end
-";
-
-/// Three kinds of line ends, a comment, a line of white space, and few spaces; the last line ends with the text.
-const LINE_ENDS: &[u8] = b"\
-<urn:a> <http://www.w3.org/1999/02/22-rdf-syntax-ns#type> <urn:T> .\r
-<urn:b> <http://www.w3.org/1999/02/22-rdf-syntax-ns#type> <urn:T> . # second\r\t\x20
-<urn:a><urn:p>\"1\".
-<urn:b> <urn:p> \"1\".";
-
-const NO_LAST_DOT: &[u8] = b"\
-<urn:a> <http://www.w3.org/1999/02/22-rdf-syntax-ns#type> <urn:T> .\r
-<urn:b> <http://www.w3.org/1999/02/22-rdf-syntax-ns#type> <urn:T> . # second\r\t\x20
-<urn:a><urn:p>\"1\".
-<urn:b> <urn:p> \"1\"";
-
-const EXPORTED: &[u8] = b"\
-# Books, as they were exported
-<http://ex.org/b1> <http://www.w3.org/1999/02/22-rdf-syntax-ns#type> <http://schema.org/Book> .
-<http://ex.org/b1> <http://www.w3.org/1999/02/22-rdf-syntax-ns#type> <http://schema.org/CreativeWork> .
-<http://ex.org/b1> <http://schema.org/isbn> \"9780140449136\" .
-<http://ex.org/b1> <http://schema.org/name> \"Crime and Punishment\"@en .
-_:n4 <http://www.w3.org/1999/02/22-rdf-syntax-ns#type> <http://schema.org/Book> .
-_:n4 <http://schema.org/isbn> \"9780140449136\" .
-_:n4 <http://schema.org/datePublished> \"2003-01-30\"^^<http://www.w3.org/2001/XMLSchema#date> .
 ";
 
 const ISBN: &[u8] = b"\
@@ -68,13 +31,6 @@ const RELATIVE: &[u8] = b"<a> <urn:p> \"x\" .\n";
 /// A line whose string is not closed.
 const NOT_CLOSED: &[u8] = b"<urn:a> <urn:p> \"x";
 
-/// A graph with a line behind it.
-fn with_line(alloc: Global, graph: &[u8], line: &[u8]) -> Result<Vec<u8>, NoMemory> {
-    let mut longer = graph.to_vec(alloc)?;
-    longer.extend_from_slice(line)?;
-    Ok(longer)
-}
-
 /// A run that is refused.
 const REFUSED: Case<'static> = Case {
     status: 2,
@@ -88,9 +44,9 @@ fn refused() -> Case<'static> {
 
 /// Graphs with keys, and what is printed.
 static READ: [(&[u8], &[u8], &str); 3] = [
-    (ALIKE, THREE_VALUES, "<urn:u1> <urn:u2>\n"),
+    (SPELLINGS, THREE_VALUES, "<urn:u1> <urn:u2>\n"),
     (LINE_ENDS, ONE_VALUE, "<urn:a> <urn:b>\n"),
-    (EXPORTED, ISBN, "<http://ex.org/b1> _:n4\n"),
+    (BOOKS, ISBN, "<http://ex.org/b1> _:n4\n"),
 ];
 
 fn read() -> &'static [(&'static [u8], &'static [u8], &'static str)] {
@@ -114,8 +70,7 @@ fn all_forms_of_terms_and_lines_are_read(rt: HostRuntime) {
 }
 
 /// Graphs with a line behind each, and how they are refused.
-static REFUSALS: [(&[u8], &[u8], &str); 4] = [
-    (NO_LAST_DOT, b"", "graph:5: dot expected\n"),
+static REFUSALS: [(&[u8], &[u8], &str); 3] = [
     (ALBUMS, RELATIVE, "graph:7: relative IRI\n"),
     (ALBUMS, NOT_CLOSED, "graph:7: string not closed\n"),
     (b"", b"\x1F\x8B\n", "graph:1: not UTF-8\n"),
@@ -133,7 +88,7 @@ fn is_refused<R: AllocGlobal + Threads + Wait + Sync + Abort>(
     most: usize,
     err: &str,
 ) -> bool {
-    let longer = with_line(rt.alloc(), graph, line).expect(rt, ENOUGH);
+    let longer = joined(rt.alloc(), graph, line).expect(rt, ENOUGH);
     let case = Case {
         graph: &longer,
         most,
@@ -145,13 +100,18 @@ fn is_refused<R: AllocGlobal + Threads + Wait + Sync + Abort>(
 
 #[test]
 fn refused_graphs_name_their_first_line(rt: HostRuntime) {
-    for (row, (graph, line, err)) in refusals().iter().enumerate() {
-        for most in [1usize, 2, 3, 65_536] {
+    let (_, no_last_dot) = line_ends().split_last().expect(&rt, "no graph");
+    for most in [1usize, 2, 3, 65_536] {
+        for (row, (graph, line, err)) in refusals().iter().enumerate() {
             assert!(rt;
                 is_refused(&rt, graph, line, most, err),
                 "row {row}, {most} bytes at once"
             );
         }
+        assert!(rt;
+            is_refused(&rt, no_last_dot, b"", most, "graph:5: dot expected\n"),
+            "no last dot, {most} bytes at once"
+        );
     }
 }
 
@@ -212,7 +172,7 @@ fn no_byte_is_read_after_a_refused_line(rt: HostRuntime) {
 
 #[test]
 fn a_refused_graph_comes_before_a_missing_key_file(rt: HostRuntime) {
-    let longer = with_line(rt.alloc(), albums(), RELATIVE).expect(&rt, ENOUGH);
+    let longer = joined(rt.alloc(), albums(), RELATIVE).expect(&rt, ENOUGH);
     let no_keys = Case {
         words: &["match", "g", "none"],
         graph: &longer,

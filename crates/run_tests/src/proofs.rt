@@ -1,11 +1,11 @@
-//! Proofs that are made, checked and converted. In graphs and keys `%` stands for `rdf:type`.
+//! Proofs that are made, checked and converted.
 
-use crate::keys::with_types;
 use crate::runs::{Case, ENOUGH, good, holds};
-use crate::texts::{album_and_artist_keys, albums_and_artists};
+use crate::texts::{album_and_artist_keys, albums_and_artists, joined};
 use fixtures::texts::{
     ALBUM_AND_ARTIST_KEYS, ALBUM_AND_ARTIST_PROOF, ALBUM_AND_ARTIST_PROOF_1, ALBUM_KEY,
-    ALBUM_PROOF, ALBUM_PROOF_1, ALBUMS, ALBUMS_AND_ARTISTS, ONE_VALUE,
+    ALBUM_PROOF, ALBUM_PROOF_1, ALBUMS, ALBUMS_AND_ARTISTS, ANOTHER_YEAR, ANOTHER_YEAR_PROOF_1,
+    NO_STEPS, ONE_FOLDED, ONE_VALUE, STREET_PROOF_1, STREETS, YEAR_KEY,
 };
 use gk_base::NoMemory;
 use std::alloc::Global;
@@ -13,39 +13,17 @@ use std::process::Abort;
 use std::sync::Wait;
 use std::thread::Threads;
 
-/// The proof of nothing.
-const NO_STEPS: &str = "gkey-proof 2\nterms 0\nend 0\n";
-
-/// What a command leaves of a graph, keys and a proof.
+/// What a command leaves of a graph, which may have more lines than those of a text, keys and a proof.
 #[derive(Clone, Copy)]
 struct Row {
     words: &'static [&'static str],
     graph: &'static [u8],
+    more: &'static [u8],
     keys: &'static [u8],
     proof: &'static str,
     status: u8,
     out: &'static str,
 }
-
-const OTHER_YEAR: &[u8] = b"\
-<urn:al1> % <urn:Album> .\n<urn:al2> % <urn:Album> .\n<urn:al1> <urn:name> \"Anthology 2\" .\n<urn:al2> <urn:name> \"Anthology 2\" .
-<urn:al1> <urn:year> \"1996\" .\n<urn:al2> <urn:year> \"1996\" .\n<urn:al1> <urn:year> \"Anthology 2\" .
-";
-
-const YEAR_KEY: &[u8] = b"key c <urn:Album>\n?x <urn:year> \"1996\"\nend\n";
-
-const YEAR_PROOF: &str =
-    "gkey-proof 1\nstep c\nleft <urn:al1> \"Anthology 2\"\nright <urn:al2> \"1996\"\ndone\nend 1\n";
-
-const STREETS: &[u8] = b"\
-<urn:u1> % <urn:T> .\n<urn:u2> % <urn:T> .\n<urn:u3> % <urn:T> .
-<urn:u1> <urn:p> \"Stra\xC3\x9Fe\" .\n<urn:u2> <urn:p> \"STRASSE\" .\n<urn:u3> <urn:p> \"strasse\"@de .
-";
-
-const FOLDED_KEY: &[u8] = b"key k <urn:T>\nfolded $v\n?x <urn:p> $v\nend\n";
-
-const STREET_PROOF: &str =
-    "gkey-proof 1\nstep k\nleft <urn:u1> \"Straße\"\nright <urn:u2> \"STRASSE\"\ndone\nend 1\n";
 
 const PROVE: &[&str] = &["prove", "g", "k"];
 
@@ -60,118 +38,106 @@ pub const CHECK: &[&str] = &["check", "g", "k", "p"];
 /// Convert the proof `p`.
 pub const CONVERT: &[&str] = &["convert", "p"];
 
+/// The albums' proof is accepted.
+const ACCEPTED: Row = Row {
+    words: CHECK,
+    graph: ALBUMS,
+    more: b"",
+    keys: ALBUM_KEY,
+    proof: ALBUM_PROOF,
+    status: 0,
+    out: "accepted 1\n",
+};
+
+/// A proof of one step that is not accepted.
+const NOT_ACCEPTED: Row = Row {
+    keys: YEAR_KEY,
+    proof: ANOTHER_YEAR_PROOF_1,
+    status: 1,
+    out: "rejected 1: triple missing\n",
+    ..ACCEPTED
+};
+
+/// The proof of the four albums and their artists is accepted.
+const ACCEPTED_OF_FOUR: Row = Row {
+    graph: ALBUMS_AND_ARTISTS,
+    keys: ALBUM_AND_ARTIST_KEYS,
+    proof: ALBUM_AND_ARTIST_PROOF,
+    out: "accepted 3\n",
+    ..ACCEPTED
+};
+
+/// A proof is converted, and no other file is looked at.
+const CONVERTED: Row = Row {
+    words: CONVERT,
+    graph: b"",
+    keys: b"",
+    proof: ALBUM_PROOF_1,
+    out: ALBUM_PROOF,
+    ..ACCEPTED
+};
+
 static ROWS: [Row; 14] = [
     Row {
         words: PROVE,
-        graph: ALBUMS,
-        keys: ALBUM_KEY,
         proof: "",
-        status: 0,
         out: ALBUM_PROOF,
+        ..ACCEPTED
     },
     Row {
         words: PROVE,
         graph: b"",
-        keys: ALBUM_KEY,
         proof: "",
-        status: 0,
         out: NO_STEPS,
+        ..ACCEPTED
     },
     Row {
-        words: CHECK,
         graph: b"",
-        keys: ALBUM_KEY,
         proof: NO_STEPS,
-        status: 0,
         out: "accepted 0\n",
+        ..ACCEPTED
     },
+    ACCEPTED,
     Row {
-        words: CHECK,
-        graph: ALBUMS,
-        keys: ALBUM_KEY,
-        proof: ALBUM_PROOF,
-        status: 0,
-        out: "accepted 1\n",
-    },
-    Row {
-        words: CHECK,
-        graph: ALBUMS,
-        keys: ALBUM_KEY,
         proof: ALBUM_PROOF_1,
-        status: 0,
-        out: "accepted 1\n",
+        ..ACCEPTED
     },
     Row {
-        words: CHECK,
-        graph: ALBUMS_AND_ARTISTS,
-        keys: ALBUM_AND_ARTIST_KEYS,
         proof: ALBUM_AND_ARTIST_PROOF_1,
-        status: 0,
-        out: "accepted 3\n",
+        ..ACCEPTED_OF_FOUR
     },
+    ACCEPTED_OF_FOUR,
+    NOT_ACCEPTED,
     Row {
-        words: CHECK,
-        graph: ALBUMS_AND_ARTISTS,
-        keys: ALBUM_AND_ARTIST_KEYS,
-        proof: ALBUM_AND_ARTIST_PROOF,
-        status: 0,
-        out: "accepted 3\n",
-    },
-    Row {
-        words: CHECK,
-        graph: ALBUMS,
-        keys: YEAR_KEY,
-        proof: YEAR_PROOF,
-        status: 1,
-        out: "rejected 1: triple missing\n",
-    },
-    Row {
-        words: CHECK,
-        graph: OTHER_YEAR,
-        keys: YEAR_KEY,
-        proof: YEAR_PROOF,
-        status: 1,
+        more: ANOTHER_YEAR,
         out: "rejected 1: constant differs\n",
+        ..NOT_ACCEPTED
     },
     Row {
-        words: CHECK,
         graph: STREETS,
-        keys: FOLDED_KEY,
-        proof: STREET_PROOF,
-        status: 0,
-        out: "accepted 1\n",
+        keys: ONE_FOLDED,
+        proof: STREET_PROOF_1,
+        ..ACCEPTED
     },
     Row {
-        words: CHECK,
         graph: STREETS,
         keys: ONE_VALUE,
-        proof: STREET_PROOF,
-        status: 1,
+        proof: STREET_PROOF_1,
         out: "rejected 1: value differs\n",
+        ..NOT_ACCEPTED
     },
+    CONVERTED,
     Row {
-        words: CONVERT,
-        graph: b"",
-        keys: b"",
-        proof: ALBUM_PROOF_1,
-        status: 0,
-        out: ALBUM_PROOF,
-    },
-    Row {
-        words: CONVERT,
-        graph: b"",
-        keys: b"",
         proof: ALBUM_AND_ARTIST_PROOF_1,
-        status: 0,
         out: ALBUM_AND_ARTIST_PROOF,
+        ..CONVERTED
     },
     Row {
-        words: CONVERT,
         graph: b"x",
         keys: b"x",
         proof: ALBUM_AND_ARTIST_PROOF,
-        status: 0,
         out: ALBUM_AND_ARTIST_PROOF,
+        ..CONVERTED
     },
 ];
 
@@ -207,7 +173,7 @@ fn leaves<'a, R: AllocGlobal + Threads + Wait + Sync + Abort>(
 
 /// Whether a command leaves this of a graph, keys and a proof.
 fn row_holds<R: AllocGlobal + Threads + Wait + Sync + Abort>(rt: &R, row: &Row) -> bool {
-    let graph = with_types(rt.alloc(), row.graph).expect(rt, ENOUGH);
+    let graph = joined(rt.alloc(), row.graph, row.more).expect(rt, ENOUGH);
     let left = Left {
         status: row.status,
         out: row.out,

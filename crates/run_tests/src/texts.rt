@@ -1,8 +1,11 @@
 //! Texts that several tests run on. They stand behind functions, so that the proofs of the tests carry none of their bytes.
 
 use fixtures::texts::{
-    ALBUM_AND_ARTIST_KEYS, ALBUM_KEY, ALBUMS, ALBUMS_AND_ARTISTS, ONE_VALUE, THREE_CLASSES,
+    ALBUM_AND_ARTIST_KEYS, ALBUM_KEY, ALBUMS, ALBUMS_AND_ARTISTS, LINE_ENDS, ONE_VALUE,
+    THREE_CLASSES,
 };
+use gk_base::NoMemory;
+use std::alloc::Global;
 
 /// Two albums with the same name and year.
 pub fn albums() -> &'static [u8] {
@@ -32,4 +35,16 @@ pub fn three_classes() -> &'static str {
 /// A key of one value.
 pub fn one_value() -> &'static [u8] {
     ONE_VALUE
+}
+
+/// Two entities with one value, in lines with all kinds of ends.
+pub fn line_ends() -> &'static [u8] {
+    LINE_ENDS
+}
+
+/// A text with another behind it.
+pub fn joined(alloc: Global, front: &[u8], more: &[u8]) -> Result<Vec<u8>, NoMemory> {
+    let mut text = front.to_vec(alloc)?;
+    text.extend_from_slice(more)?;
+    Ok(text)
 }

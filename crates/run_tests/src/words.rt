@@ -1,6 +1,7 @@
 //! Words that ask for no command, and those that ask for help and for the version.
 
 use crate::runs::{Case, ENOUGH, GOOD, good, holds, unread, words_of};
+use fixtures::texts::USAGE;
 use gk_io::{MemShelf, SureSink};
 use gkey_cmd::run;
 use std::process::Abort;
@@ -41,7 +42,7 @@ fn no_command() -> &'static [&'static [&'static str]] {
 
 /// What is said of words that ask for no command.
 fn usage() -> &'static str {
-    "usage:\n  gkey match [--workers N] GRAPH KEYS\n  gkey prove [--workers N] GRAPH KEYS\n  gkey check GRAPH KEYS PROOF\n  gkey convert PROOF\n  gkey demo N\n  gkey grow [--workers N] GRAPH MORE KEYS\n  gkey merge [--workers N] GRAPH KEYS\n  gkey why [--workers N] GRAPH KEYS A B\n  gkey --help\n  gkey --version\n"
+    USAGE
 }
 
 #[test]
