@@ -4,7 +4,7 @@ ghost use Rattle.std.specs.Prelude.{◌≡◌, ◌<◌, ◌++◌, [], ◌∷◌,
 ghost use Rattle.chase_laws.specs.declared.entry.Entry.{Entry};
 ghost use Rattle.class_book.specs.Classes.{Classes, IsLabelled};
 ghost use Rattle.label_board.specs.Seen.{HasEntered, ShowsClass};
-ghost use Rattle.label_board.specs.Rule.{IsSeatAt, with_shown};
+ghost use Rattle.label_board.specs.Rule.{IsSeatAt, between_posts, with_shown};
 
 use crate::handles::{Board, Scribe};
 use crate::steps::{Place, Words, count_up, load_count, write_label};
@@ -30,6 +30,26 @@ fn write_class(words: &Words, scribe: &mut Place, book: &Book, name: u32)
     }
 }
 
+/// Posts the last entry of a book by the scribe's seat. Labels change only after the entry is counted up and before the last
+/// load, with which the post ends: no watcher stands even meanwhile with all that was posted.
+fn post_last(words: &Words, scribe: &mut Place, book: &Book)
+    requires words { IsSeatAt scribe.old.table_id words.now.table_id words.now.key.names }
+    requires names { length book.now.labels ≡ words.now.key.names }
+    requires scribe { (scribe.old.me.0.writes ≡ true) × (scribe.old.me.0 ≡ between_posts scribe.old.me.0) }
+    requires more { (e : Entry) × (book.now.journal ≡ scribe.old.me.0.posted ++ e ∷ []) }
+    ensures table { scribe.new.table_id ≡ scribe.old.table_id }
+    ensures scribe { (scribe.new.me.0.writes ≡ true) × (scribe.new.me.0 ≡ between_posts scribe.new.me.0) }
+    ensures posted { scribe.new.me.0.posted ≡ book.now.journal }
+    ensures shown { (e : Entry) → book.now.journal ≡ scribe.old.me.0.posted ++ e ∷ [] → ShowsClass scribe.old.me.0.shown book.now e.a scribe.new.me.0.shown }
+{
+    let journal = book.journal();
+    let place = journal.len() - 1;
+    let entry = journal[place];
+    count_up(words, scribe, place as u64, &entry);
+    write_class(words, scribe, book, entry.a);
+    load_count(words, scribe);
+}
+
 impl Board {
     /// Posts the last entry of a book: counts it up, then writes the labels of the class that it made. The book has to be
     /// over the board's names, and its journal has to be what was posted and one entry more. Afterwards the members of that
@@ -46,11 +66,6 @@ impl Board {
         ensures labels { (before : Classes) (e : Entry) → IsLabelled before.labels before.journal → HasEntered before e book.now →
             scribe.old.posted ≡ before.journal → scribe.old.shown ≡ before.labels → scribe.new.shown ≡ book.now.labels }
     {
-        let journal = book.journal();
-        let place = journal.len() - 1;
-        let entry = journal[place];
-        count_up(&self.table.shared, &mut scribe.seat, place as u64, &entry);
-        write_class(&self.table.shared, &mut scribe.seat, book, entry.a);
-        load_count(&self.table.shared, &mut scribe.seat);
+        post_last(&self.table.shared, &mut scribe.seat, book);
     }
 }
