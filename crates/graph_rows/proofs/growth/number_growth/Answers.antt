@@ -18,7 +18,7 @@ compile-requires g c =
     omega arith
 
 pub build_in_threads-requires-clause-named : goal.build_in_threads-requires-clause-named
-build_in_threads-requires-clause-named g c =
+build_in_threads-requires-clause-named g c κs within =
     let f = c.requires.few in
     let P : List ℕ → Type 0 = λ row. All (λ n. n < c.len-count.result) row in
     let front : c.in_ok-front.front.items ≡ take c.args.first c.args.rows.rows.items = c.in_ok-front.ensures.items ∙ ap (take c.args.first) c.deref-2.ensures.value in
@@ -29,10 +29,10 @@ build_in_threads-requires-clause-named g c =
     subst (All P) (sym front) (All-take P c.args.first c.args.rows.rows.items all)
 
 pub build_in_threads-requires-clause-type_named : goal.build_in_threads-requires-clause-type_named
-build_in_threads-requires-clause-type_named g c = rw c.len-count.ensures.len (λ n e. type_within c.compile.new.names n (sym c.in_ok-rdf_type.ensures ∙ e))
+build_in_threads-requires-clause-type_named g c κs within = rw c.len-count.ensures.len (λ n e. type_within c.compile.new.names n (sym c.in_ok-rdf_type.ensures ∙ e))
 
 pub build_in_threads-requires-clause-folding : goal.build_in_threads-requires-clause-folding
-build_in_threads-requires-clause-folding g c =
+build_in_threads-requires-clause-folding g c κs within =
     let a = c.in_ok-alike.ensures in
     let flags : c.in_ok-flags.flags.items ≡ c.in_ok-literal.literal.items = c.in_ok-flags.ensures.items ∙ c.deref-3.ensures.value in
     let numbers : c.in_ok-numbers.numbers.items ≡ c.in_ok-alike.alike.items = c.in_ok-numbers.ensures.items ∙ c.deref-4.ensures.value in
@@ -41,7 +41,7 @@ build_in_threads-requires-clause-folding g c =
     (flags ∙ c.in_ok-literal.ensures) a.one_each a.not_above a.itself a.literals a.others)
 
 pub build_in_threads-requires-2-clause-named : goal.build_in_threads-requires-2-clause-named
-build_in_threads-requires-2-clause-named g c =
+build_in_threads-requires-2-clause-named g c κs within =
     let f = c.requires.few in
     let a = ap length c.in_ok-patterns.ensures.names in
     let b = (length-with_terms c.args.rows.names (key_terms c.args.keys.now)).0 in
@@ -49,7 +49,7 @@ build_in_threads-requires-2-clause-named g c =
     rw f.1.rows (rows_within c.args.rows.names f.0 c.len-count.result (named_of c.args.rows f.0 f.1) (omega arith))
 
 pub build_in_threads-requires-2-clause-folding : goal.build_in_threads-requires-2-clause-folding
-build_in_threads-requires-2-clause-folding g c =
+build_in_threads-requires-2-clause-folding g c κs within =
     let a = c.in_ok-alike.ensures in
     folding_of c.compile.new.names c.args.rows.rows.items c.in_ok-literal.literal.items c.in_ok-rdf_type.rdf_type c.in_ok-alike.alike.items
     c.in_ok-literal.ensures a.one_each a.not_above a.itself a.literals a.others

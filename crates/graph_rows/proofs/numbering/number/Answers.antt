@@ -16,7 +16,7 @@ compile-requires g c =
     omega arith
 
 pub build_in_threads-requires-clause-named : goal.build_in_threads-requires-clause-named
-build_in_threads-requires-clause-named g c =
+build_in_threads-requires-clause-named g c κs within =
     let f = c.requires.few in
     let a = ap length c.in_ok-patterns.ensures.names in
     let b = (length-with_terms c.args.rows.names (key_terms c.args.keys.now)).0 in
@@ -24,10 +24,10 @@ build_in_threads-requires-clause-named g c =
     rw f.1.rows (rows_within c.args.rows.names f.0 c.len-count.result (named_of c.args.rows f.0 f.1) (omega arith))
 
 pub build_in_threads-requires-clause-type_named : goal.build_in_threads-requires-clause-type_named
-build_in_threads-requires-clause-type_named g c = rw c.len-count.ensures.len (λ n e. type_within c.compile.new.names n (sym c.in_ok-rdf_type.ensures ∙ e))
+build_in_threads-requires-clause-type_named g c κs within = rw c.len-count.ensures.len (λ n e. type_within c.compile.new.names n (sym c.in_ok-rdf_type.ensures ∙ e))
 
 pub build_in_threads-requires-clause-folding : goal.build_in_threads-requires-clause-folding
-build_in_threads-requires-clause-folding g c =
+build_in_threads-requires-clause-folding g c κs within =
     let a = c.in_ok-alike.ensures in
     folding_of c.compile.new.names c.args.rows.rows.items c.in_ok-literal.literal.items c.in_ok-rdf_type.rdf_type c.in_ok-alike.alike.items
     c.in_ok-literal.ensures a.one_each a.not_above a.itself a.literals a.others
