@@ -2,8 +2,8 @@
 
 ghost use Rattle.std.specs.Prelude.{◌≡◌, ◌<◌, ◌↔◌, ℕ, All, Contains, IfOk, length};
 ghost use Rattle.std.specs.List.Sorted.{IsStrictlyIncreasing};
-ghost use Rattle.chase_laws.specs.Near.{IsNear};
 ghost use Rattle.list_pool.specs.Pool.{list_at};
+ghost use Rattle.near_lists.specs.Neighbourhoods.{AreNearNames};
 
 use crate::entities::near_rows;
 use crate::rows::Rows;
@@ -38,9 +38,7 @@ impl Near {
     /// Finds what is near to each name of the graph. Time goes with the rows that the walks pass, and memory with the
     /// lists and with the walks from one name. Fails only for want of memory.
     pub fn build(alloc: Global, graph: &Graph, patterns: &[Pattern]) -> Result<Near, NoMemory>
-        ensures count { IfOk result (λ n. length n.near ≡ length graph.now.literal) }
-        ensures near { IfOk result (λ n. (e m : ℕ) → e < length graph.now.literal →
-            Contains (list_at n.near e) m ↔ IsNear graph.now patterns.now e m) }
+        ensures { IfOk result (λ n. AreNearNames graph.now patterns.now n.near) }
     {
         let near = near_rows(alloc, graph, patterns)?;
         let owners = turned(alloc, &near, graph.names())?;
