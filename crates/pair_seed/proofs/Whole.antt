@@ -12,7 +12,7 @@ use Rattle.chase_laws.specs.Shape.{Shape, PatternFacts}
 use Rattle.chase_laws.specs.Graph.{NumberedGraph, HasRow, HasType, IsGraph}
 use Rattle.chase_laws.specs.Candidate.{IsCandidate, AreAscending}
 use Rattle.pair_seed.specs.Pairs.{HasMoreCandidates}
-use Rattle.pair_seed.specs.Gathered.{AreCandidatesBelow}
+use Rattle.pair_seed.specs.Gathered.{AreCandidatesFrom}
 use Rattle.pair_seed.proofs.Keys.{designated_by}
 
 -- whether two pairs are equal
@@ -65,15 +65,15 @@ module _ (G : NumberedGraph) (K : List Shape) (graph : IsGraph G) (valid : (key 
       let first = (valid x.key x.pattern x.found).first in
       (typed_named G a first.0 graph (designated_by G x.pattern first.0 a first.1 x.under.left).1, typed_named G b first.0 graph (designated_by G x.pattern first.0 b first.1 x.under.right).1)
 
-  module _ (n : ℕ) (ps : List (ℕ × ℕ)) (below : AreCandidatesBelow G K n ps) (all : length G.literal ≤ n) where
+  module _ (n : ℕ) (ps : List (ℕ × ℕ)) (run : AreCandidatesFrom G K 0 n ps) (all : length G.literal ≤ n) where
     pub exact : (a b : ℕ) → Contains ps (a, b) ↔ IsCandidate G K a b
     exact a b = (
-      (λ h. (All-contains (λ (x : ℕ × ℕ). (x.0 < n) × IsCandidate G K x.0 x.1) ps (a, b) below.only h).1),
-      (λ x. below.every a b (let named = (candidate_named a b x).0 in omega arith) x),
+      (λ h. (All-contains (λ (x : ℕ × ℕ). (0 ≤ x.0) × (x.0 < n) × IsCandidate G K x.0 x.1) ps (a, b) run.only h).2),
+      (λ x. run.every a b (omega arith) (let named = (candidate_named a b x).0 in omega arith) x),
     )
 
     pub named : All (λ x. (x.0 < x.1) × (x.1 < length G.literal)) ps
-    named k d h = let x = (below.only k d h).1 in (x.below, (candidate_named _ _ x).1)
+    named k d h = let x = (run.only k d h).2 in (x.below, (candidate_named _ _ x).1)
 
     pub no_more : (limit : ℕ) → length ps ≤ limit → HasMoreCandidates G K limit → ⊥
     no_more limit few more =

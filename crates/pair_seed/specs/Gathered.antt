@@ -1,5 +1,5 @@
 -- Numbers that are gathered, step by step (this project's own).
-use Rattle.std.specs.Prelude.{List, ℕ, Bool, Contains, Some, All, slice_get, ◌≡◌, ◌<◌, ◌↔◌, ◌⊎◌}
+use Rattle.std.specs.Prelude.{List, ℕ, Bool, Contains, Some, All, slice_get, ◌≡◌, ◌<◌, ◌≤◌, ◌↔◌, ◌⊎◌}
 use Rattle.std.specs.List.Sorted.{IsStrictlyIncreasing}
 use Rattle.chase_laws.specs.Shape.{Shape}
 use Rattle.chase_laws.specs.Graph.{NumberedGraph, IsLiteral}
@@ -26,8 +26,8 @@ pub record ArePartners (G : NumberedGraph) (K : List Shape) (a : ℕ) (bs : List
   pub ascending : IsStrictlyIncreasing bs
   pub exact : (b : ℕ) → Contains bs b ↔ IsCandidate G K a b
 
--- all candidates whose lower number is below n, in order
-pub record AreCandidatesBelow (G : NumberedGraph) (K : List Shape) (n : ℕ) (ps : List (ℕ × ℕ)) : Type 0 where
+-- all candidates whose lower number is `from` or more and below `to`, in order
+pub record AreCandidatesFrom (G : NumberedGraph) (K : List Shape) (from to : ℕ) (ps : List (ℕ × ℕ)) : Type 0 where
   pub ascending : AreAscending ps
-  pub only : All (λ x. (x.0 < n) × IsCandidate G K x.0 x.1) ps
-  pub every : (a b : ℕ) → a < n → IsCandidate G K a b → Contains ps (a, b)
+  pub only : All (λ x. (from ≤ x.0) × (x.0 < to) × IsCandidate G K x.0 x.1) ps
+  pub every : (a b : ℕ) → from ≤ a → a < to → IsCandidate G K a b → Contains ps (a, b)

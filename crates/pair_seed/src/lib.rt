@@ -1,9 +1,11 @@
 //! The candidate pairs of a graph under keys: the pairs that may be worth a search. A candidate has, under some key, a
 //! type in common and, for each value edge at the key's first slot, a shared literal. `seed` finds all of them from the
-//! shared literals, entity by entity in ascending order, and stops where there are more than a limit. What it takes
-//! beside the pairs is the work of one entity and, where a key folds values, one index of literals.
+//! shared literals, entity by entity in ascending order, and stops where there are more than a limit; `seed_in_threads`
+//! does so in runs of names. What they take beside the pairs is for each thread the work of one entity and, where a key
+//! folds values, one index of literals for all.
 //!
 //! - `candidates`: all pairs
+//! - `threads`: all pairs by threads
 //! - `stop`: why there are no pairs
 //! - `gather`: the partners of one entity
 //! - `lead`: the edge from whose literals an entity's partners are found
@@ -19,6 +21,8 @@ mod lead;
 mod parts;
 mod share;
 mod stop;
+mod threads;
 
 pub use candidates::seed;
 pub use stop::{SeedStop, TooManyPairs};
+pub use threads::seed_in_threads;
