@@ -8,6 +8,7 @@ ghost use Rattle.chase_laws.specs.declared.pair_state.PairState.TheVariants as s
 ghost use Rattle.chase_laws.specs.Joined.{Joined};
 ghost use Rattle.chase_laws.specs.Core.{PairAt, ListsNear, IsPresent, Event, Happens, Run, IsFinished, opening};
 ghost use Rattle.chase_laws.specs.Core.Event.{Recall};
+ghost use Rattle.chase_core.specs.declared.ticket.Outcome.TheVariants.{Missed};
 ghost use Rattle.chase_core.specs.declared.ticket.Settled.TheVariants.{Already, Reopened};
 ghost use Rattle.chase_core.specs.Running.{state_in, IsRunning};
 ghost use Rattle.chase_core.specs.Taking.{TakesFirst, TakesHint, pair_of};
@@ -16,7 +17,7 @@ ghost use Rattle.chase_core.specs.Settling.{IsRightOutcome, RiseInOrder, Settles
 ghost use Rattle.chase_core.specs.Present.{SettlesPresent};
 
 use crate::recall::recall_parts;
-use crate::settle::{settle_fresh_parts, settle_parts, settle_present};
+use crate::settle::{settle_missed_parts, settle_parts, settle_present};
 use crate::table::PairTable;
 use crate::take::{take_parts, take_unseen_parts};
 use crate::{Matched, Outcome, Settled, Setup, Ticket, Woken};
@@ -159,19 +160,15 @@ impl<'a> Chase<'a> {
         )
     }
 
-    /// Settles a pair as `settle` does, by one who knows that the view has the present labels: nothing is compared.
-    pub fn settle_fresh(
-        &mut self,
-        ticket: Ticket,
-        view: &View,
-        outcome: Outcome,
-        woken: &mut Woken,
-    ) -> Settled
+    /// Settles a pair of which a search found nothing, by one who knows that the view has the present labels: nothing is
+    /// compared.
+    #[inline]
+    pub fn settle_missed(&mut self, ticket: Ticket, view: &View, woken: &mut Woken) -> Settled
         requires ends { PairAt self.old.setup.task ticket.pair ticket.a ticket.b }
         requires view { ListsNear self.old.setup.task ticket.a ticket.b view.now.pairs }
-        requires outcome { IsRightOutcome self.old.setup.task (state_in self.old) ticket view.now.pairs outcome }
+        requires outcome { IsRightOutcome self.old.setup.task (state_in self.old) ticket view.now.pairs Missed }
         requires present { IsPresent (state_in self.old) view.now.pairs }
-        ensures settles { Settles self.old ticket view.now.pairs outcome result self.new }
+        ensures settles { Settles self.old ticket view.now.pairs Missed result self.new }
         ensures already { (result ≡ Already) ↔ Joined self.old.book.journal ticket.a ticket.b }
         ensures woken { Notes self.old ticket.pair result self.new woken.old.room woken.new.list }
         ensures woken_room { woken.new.room ≡ woken.old.room }
@@ -180,16 +177,7 @@ impl<'a> Chase<'a> {
         ensures never_again { (node seen now : ℕ) → result ≢ Reopened node seen now }
     {
         law_core();
-        settle_fresh_parts(
-            self.setup,
-            &mut self.book,
-            &mut self.table,
-            &mut self.aside,
-            ticket,
-            view,
-            outcome,
-            woken,
-        )
+        settle_missed_parts(self.setup, &self.book, &mut self.table, ticket, view, woken)
     }
 
     /// Gives all pairs back that are handed out: each Flying pair becomes Ready, in ascending order at the end of the
@@ -227,6 +215,7 @@ impl<'a> Chase<'a> {
 
     /// Hands out the pair that `take` does, and shows nothing: for one who has the chase alone, and searches by the present
     /// labels.
+    #[inline]
     pub fn take_unseen(&mut self, hint: Option<u32>) -> Option<Ticket>
         requires hint { ForSome hint (λ p. p < length self.old.setup.task.pairs) }
         ensures takes { MatchOption hint (TakesFirst self.old self.new (pair_of result)) (λ p. TakesHint self.old self.new p (pair_of result)) }

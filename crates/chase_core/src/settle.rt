@@ -98,8 +98,8 @@ pub fn enter_found(
     place
 }
 
-/// Settles a pair that was searched and not found.
-fn settle_missed(
+/// Settles a pair that was searched and not found: its view is compared with the present labels.
+fn settle_compared(
     setup: &Setup,
     book: &Book,
     table: &mut PairTable,
@@ -191,44 +191,39 @@ pub fn settle_parts(
     setup.prepared();
     match settle_unless_missed(setup, book, table, aside, ticket, outcome, woken) {
         Some(settled) => settled,
-        None => settle_missed(setup, book, table, ticket, view),
+        None => settle_compared(setup, book, table, ticket, view),
     }
 }
 
-/// Settles a pair as `settle_parts` does where the view has the present labels: nothing is compared.
-pub fn settle_fresh_parts(
+/// Settles a pair of which a search found nothing, where the view has the present labels: nothing is compared.
+#[inline]
+pub fn settle_missed_parts(
     setup: &Setup,
-    book: &mut Book,
+    book: &Book,
     table: &mut PairTable,
-    aside: &mut Vec<u32>,
     ticket: Ticket,
     view: &View,
-    outcome: Outcome,
     woken: &mut Woken,
 ) -> Settled
-    requires sound { IsSound setup.now.task (state_of book.old table.old) }
+    requires sound { IsSound setup.now.task (state_of book.now table.old) }
     requires ends { PairAt setup.now.task ticket.pair ticket.a ticket.b }
     requires view { ListsNear setup.now.task ticket.a ticket.b view.now.pairs }
-    requires outcome { IsRightOutcome setup.now.task (state_of book.old table.old) ticket view.now.pairs outcome }
-    requires present { IsPresent (state_of book.old table.old) view.now.pairs }
-    requires room { book.old.room ≡ journal_room setup.now.task }
-    requires aside { length setup.now.task.pairs ≤ vec_capacity aside.old }
-    ensures settles { Settles (running_with setup.now book.old table.old) ticket view.now.pairs outcome result (running_with setup.now book.new table.new) }
-    ensures woken { Notes (running_with setup.now book.old table.old) ticket.pair result (running_with setup.now book.new table.new) woken.old.room woken.new.list }
-    ensures room { book.new.room ≡ book.old.room }
-    ensures aside { vec_capacity aside.new ≡ vec_capacity aside.old }
+    requires outcome { IsRightOutcome setup.now.task (state_of book.now table.old) ticket view.now.pairs Missed }
+    requires present { IsPresent (state_of book.now table.old) view.now.pairs }
+    ensures settles { Settles (running_with setup.now book.now table.old) ticket view.now.pairs Missed result (running_with setup.now book.now table.new) }
+    ensures woken { Notes (running_with setup.now book.now table.old) ticket.pair result (running_with setup.now book.now table.new) woken.old.room woken.new.list }
     ensures woken_room { woken.new.room ≡ woken.old.room }
 {
     setup.prepared();
     // The view only says in the contract what was searched.
     let _ = view;
-    match settle_unless_missed(setup, book, table, aside, ticket, outcome, woken) {
-        Some(settled) => settled,
-        None => {
-            table.mark(ticket.pair, PairState::Missed);
-            Settled::Missed
-        }
+    woken.clear();
+    if !book.same(ticket.a, ticket.b) {
+        table.mark(ticket.pair, PairState::Missed);
+        return Settled::Missed;
     }
+    table.mark(ticket.pair, PairState::Joined);
+    Settled::Already
 }
 
 /// Searches for a pair whose ends are not joined by the present labels, and settles it. Nothing is compared: between the

@@ -7,6 +7,7 @@ ghost use Rattle.chase_laws.specs.Chase.{IsAble};
 ghost use Rattle.chase_laws.specs.Core.{IsTask, name_count};
 ghost use Rattle.paired_search.specs.KeyRange.{AreIdleOutside};
 ghost use Rattle.paired_search.specs.Plans.{ArePlans};
+ghost use Rattle.near_lists.specs.Neighbourhoods.{AreNearNames};
 ghost use Rattle.near_lists.specs.Turning.{HasEnd};
 ghost use Rattle.chase_core.specs.Setup.{AreRangesFor, IsMost, IsNearTo, IsWidest};
 
@@ -100,10 +101,31 @@ impl Setup {
         requires keys { AreRangesFor graph patterns.items pairs.items keys.items }
         ensures { IfOk result (λ s. s.task ≡ record { graph = graph; patterns = patterns.items; pairs = pairs.items }) }
     {
+        let near = Near::build(alloc, &graph, &patterns)?;
+        Setup::with_near(alloc, graph, patterns, pairs, keys, near)
+    }
+
+    /// Prepares a chase as `with_keys` does, over near lists that were made of the graph and the patterns before.
+    pub fn with_near(
+        alloc: Global,
+        graph: Graph,
+        patterns: Vec<Pattern>,
+        pairs: Vec<(u32, u32)>,
+        keys: Vec<KeyRange>,
+        near: Near,
+    ) -> Result<Setup, NoMemory>
+        requires few_patterns { length patterns.items < 2 ^ 32 }
+        requires few_pairs { length pairs.items < 2 ^ 32 }
+        requires ascend { AreAscending pairs.items }
+        requires named { All (λ p. (p.0 < p.1) × (p.1 < length graph.literal)) pairs.items }
+        requires able { (a b : ℕ) → IsAble graph patterns.items a b → Contains pairs.items (a, b) }
+        requires keys { AreRangesFor graph patterns.items pairs.items keys.items }
+        requires near { AreNearNames graph patterns.items near.near }
+        ensures { IfOk result (λ s. s.task ≡ record { graph = graph; patterns = patterns.items; pairs = pairs.items }) }
+    {
         let names = graph.names();
         all_valid(&patterns);
         let plans = plan_all(alloc, &patterns)?;
-        let near = Near::build(alloc, &graph, &patterns)?;
         let ends = pairs_by_end(alloc, &pairs, names)?;
         let widest = most_near(&near, &pairs).min(u64::from(names)) as u32;
         Ok(Setup {

@@ -59,6 +59,7 @@ fn all_waiting(alloc: Global, count: u32) -> Result<Pool, NoMemory>
 
 /// Takes a pair off the list, if it is there, and writes where it stands. It takes a table's fields and not the table:
 /// between its two writes the list and the states disagree, and what a table keeps does not hold.
+#[inline]
 fn mark_parts(states: &mut Vec<PairState>, waiting: &mut Pool, pair: u32, to: PairState)
     requires table { AreStandings states.old.items waiting.old.lists waiting.old.cells }
     requires pair { pair < length states.old.items }
@@ -128,6 +129,7 @@ impl PairTable {
     }
 
     /// Lets a pair stand elsewhere than among the Ready ones.
+    #[inline]
     pub fn mark(&mut self, pair: u32, to: PairState)
         requires pair { pair < length self.old.states }
         requires other { to ≢ state.Ready }

@@ -18,6 +18,7 @@ use class_book::Book;
 use paired_search::View;
 
 /// A pair by its number.
+#[inline]
 fn ticket_of(setup: &Setup, pair: u32) -> Ticket
     requires { pair < length setup.now.task.pairs }
     ensures pair { result.pair ≡ pair }
@@ -32,6 +33,7 @@ fn ticket_of(setup: &Setup, pair: u32) -> Ticket
 
 /// Takes the pairs at the front of the Ready list off it whose ends are joined, and answers the first whose ends are
 /// not.
+#[inline]
 pub fn pass_over(setup: &Setup, book: &Book, table: &mut PairTable) -> Option<u32>
     requires labels { length book.now.labels ≡ name_count setup.now.task }
     requires states { length table.old.states ≡ length setup.now.task.pairs }
@@ -124,6 +126,7 @@ pub fn take_parts(
 }
 
 /// Takes a pair as `take_parts` does, and shows nothing.
+#[inline]
 pub fn take_unseen_parts(
     setup: &Setup,
     book: &Book,

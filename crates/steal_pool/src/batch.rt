@@ -3,6 +3,7 @@
 ghost use Rattle.std.specs.Prelude.{◌≡◌, ◌++◌, ◌<◌, ◌^◌, ◌↔◌, [], ℕ, List, All, IfSome, IsTrue, IsSome, None, Some, MatchOption, length, slice_index_or};
 ghost use Rattle.chase_laws.specs.declared.entry.Entry.{Entry};
 ghost use Rattle.chase_laws.specs.Core.{ListsNear, PairAt};
+ghost use Rattle.chase_core.specs.declared.ticket.Outcome.TheVariants.{Found, Missed};
 ghost use Rattle.chase_core.specs.declared.ticket.Settled.{Settled};
 ghost use Rattle.chase_core.specs.Settling.{IsFoundBy, Settles};
 ghost use Rattle.chase_core.specs.Taking.{TakesFirst, TakesHint};
@@ -19,7 +20,7 @@ use crate::hunt::{keep_woken, next_hint, own_hint};
 use crate::pace::Settlement;
 use crate::shared::Shared;
 use crate::workspace::{Job, Progress, Workspace};
-use chase_core::{Outcome, Settled, Ticket, Woken};
+use chase_core::{Settled, Ticket, Woken};
 use label_board::Board;
 
 /// What a worker does after a turn.
@@ -47,14 +48,13 @@ fn is_wasted(settled: Settled) -> bool {
     }
 }
 
-/// Settles the pair of a job by what its search came to, and keeps what that wakes. The job has no pair then. It answers
-/// whether the search was for nothing.
-fn settle_ticket(
+/// Settles the pair of a job of which its search found something, and keeps what that wakes. The job has no pair then. It
+/// answers whether the search was for nothing.
+fn settle_found(
     shared: &mut Shared<'_>,
     board: &Board,
     job: &mut Job,
     ticket: Ticket,
-    outcome: Outcome,
     woken: &mut Woken,
     pending: &mut Vec<u32>,
     count: u32,
@@ -62,13 +62,12 @@ fn settle_ticket(
     requires board { board_over shared.old.chase.setup shared.old.scribe.board ≡ board.now }
     requires place { IsPlace shared.old.chase.setup.widest board.now job.old }
     requires read { job.old.watcher.read ≡ job.old.view.pairs }
-    requires since { IsSince shared.old.chase.book.journal job.old.watcher.since job.old.since }
     requires ends { PairAt shared.old.chase.setup.task ticket.pair ticket.a ticket.b }
     requires near { ListsNear shared.old.chase.setup.task ticket.a ticket.b job.old.view.pairs }
-    requires found { IsFoundBy shared.old.chase.setup.task ticket job.old.view.pairs outcome }
+    requires found { IsFoundBy shared.old.chase.setup.task ticket job.old.view.pairs (Found job.old.finding) }
     requires pending { All (λ p. p < count) pending.old.items }
     requires count { length shared.old.chase.setup.task.pairs ≡ count }
-    ensures settles { (answer : Settled) × Settles shared.old.chase ticket job.old.view.pairs outcome answer shared.new.chase }
+    ensures settles { (answer : Settled) × Settles shared.old.chase ticket job.old.view.pairs (Found job.old.finding) answer shared.new.chase }
     ensures free { job.new.progress ≡ Free }
     ensures setup { shared.new.chase.setup ≡ shared.old.chase.setup }
     ensures board { shared.new.scribe.board ≡ shared.old.scribe.board }
@@ -76,13 +75,12 @@ fn settle_ticket(
     ensures pending { All (λ p. p < count) pending.new.items }
     ensures place { IsPlace shared.old.chase.setup.widest board.now job.new }
 {
-    let settled = shared.settle(
+    let settled = shared.settle_found(
         board,
         &mut job.watcher,
-        job.since,
         ticket,
         &job.view,
-        outcome,
+        &job.finding,
         woken,
     );
     keep_woken(pending, woken.list(), count);
@@ -90,8 +88,45 @@ fn settle_ticket(
     is_wasted(settled)
 }
 
+/// Settles the pair of a job of which its search found nothing, which wakes no pair. The job has no pair then. It answers
+/// whether the search was for nothing.
+#[inline]
+fn settle_missed(
+    shared: &mut Shared<'_>,
+    board: &Board,
+    job: &mut Job,
+    ticket: Ticket,
+    woken: &mut Woken,
+) -> bool
+    requires board { board_over shared.old.chase.setup shared.old.scribe.board ≡ board.now }
+    requires place { IsPlace shared.old.chase.setup.widest board.now job.old }
+    requires read { job.old.watcher.read ≡ job.old.view.pairs }
+    requires since { IsSince shared.old.chase.book.journal job.old.watcher.since job.old.since }
+    requires ends { PairAt shared.old.chase.setup.task ticket.pair ticket.a ticket.b }
+    requires near { ListsNear shared.old.chase.setup.task ticket.a ticket.b job.old.view.pairs }
+    requires found { IsFoundBy shared.old.chase.setup.task ticket job.old.view.pairs Missed }
+    ensures settles { (answer : Settled) × Settles shared.old.chase ticket job.old.view.pairs Missed answer shared.new.chase }
+    ensures free { job.new.progress ≡ Free }
+    ensures setup { shared.new.chase.setup ≡ shared.old.chase.setup }
+    ensures board { shared.new.scribe.board ≡ shared.old.scribe.board }
+    ensures book { shared.new.chase.book ≡ shared.old.chase.book }
+    ensures place { IsPlace shared.old.chase.setup.widest board.now job.new }
+{
+    let settled = shared.settle_missed(
+        board,
+        &mut job.watcher,
+        job.since,
+        ticket,
+        &job.view,
+        woken,
+    );
+    job.progress = Progress::Free;
+    is_wasted(settled)
+}
+
 /// Settles a job that was searched, and keeps what that wakes. A job that was not searched stays as it is. It answers
 /// whether the search was for nothing.
+#[inline]
 fn settle_job(
     shared: &mut Shared<'_>,
     board: &Board,
@@ -115,21 +150,9 @@ fn settle_job(
     ensures job { IsJob shared.new.chase.setup.task shared.new.chase.book.journal job.new }
 {
     match job.progress {
-        Progress::Missed(ticket) => {
-            settle_ticket(
-                shared,
-                board,
-                job,
-                ticket,
-                Outcome::Missed,
-                woken,
-                pending,
-                count,
-            )
-        }
+        Progress::Missed(ticket) => settle_missed(shared, board, job, ticket, woken),
         Progress::Found(ticket) => {
-            let outcome = Outcome::Found(job.finding);
-            settle_ticket(shared, board, job, ticket, outcome, woken, pending, count)
+            settle_found(shared, board, job, ticket, woken, pending, count)
         }
         Progress::Taken(_) => false,
         Progress::Free => false,
@@ -168,6 +191,7 @@ fn settle_all(
 }
 
 /// Takes a pair for a job that has none. It answers whether it has one now.
+#[inline]
 fn take_job(shared: &mut Shared<'_>, board: &Board, job: &mut Job, hint: Option<u32>) -> bool
     requires board { board_over shared.old.chase.setup shared.old.scribe.board ≡ board.now }
     requires place { IsPlace shared.old.chase.setup.widest board.now job.old }
@@ -197,6 +221,7 @@ fn take_job(shared: &mut Shared<'_>, board: &Board, job: &mut Job, hint: Option<
 
 /// Takes a pair for a job that has none. One that has a pair keeps it, so that none is ever lost. It answers whether the
 /// job has one now.
+#[inline]
 fn fill_job(shared: &mut Shared<'_>, board: &Board, job: &mut Job, hint: Option<u32>) -> bool
     requires board { board_over shared.old.chase.setup shared.old.scribe.board ≡ board.now }
     requires place { IsPlace shared.old.chase.setup.widest board.now job.old }

@@ -2,18 +2,22 @@
 
 ghost use Rattle.std.specs.Prelude.{◌≡◌, ◌++◌, ◌<◌, ◌^◌, ℕ, List, All, IfSome, IsTrue, MatchOption, length};
 ghost use Rattle.chase_laws.specs.declared.entry.Entry.{Entry};
+ghost use Rattle.chase_laws.specs.Joined.{Joined};
+ghost use Rattle.chase_laws.specs.View.{same_by};
 ghost use Rattle.chase_laws.specs.Core.{Happens, IsPresent, ListsNear, PairAt, State};
 ghost use Rattle.chase_laws.specs.Core.Event.{Enter};
+ghost use Rattle.chase_core.specs.declared.ticket.Outcome.TheVariants.{Found, Missed};
 ghost use Rattle.chase_core.specs.Running.{IsRunning, state_in};
 ghost use Rattle.chase_core.specs.Settling.{IsFoundBy, IsRightOutcome, Notes, Settles};
 ghost use Rattle.chase_core.specs.Taking.{TakesFirst, TakesHint, pair_of};
+ghost use Rattle.label_board.specs.Seen.{AllShown};
 ghost use Rattle.steal_pool.specs.Bases.{IsSince, base_with, board_over};
 
 use chase_core::held_law::law_held;
 use chase_core::{Chase, Outcome, Settled, Setup, Ticket, Woken};
 use chase_laws::Entry;
 use label_board::{Board, Scribe, Watcher, law_fresh, law_met};
-use paired_search::View;
+use paired_search::{Finding, View};
 use turn_lock::Journaled;
 
 /// A chase that workers share, and the scribe that posts its entries. Its base is the setup and the scribe's board, and its
@@ -52,28 +56,44 @@ fn post_last(board: &Board, scribe: &mut Scribe, chase: &Chase<'_>)
     board.post(scribe, chase.book());
 }
 
-/// Settles a pair by a view. One that is told to be fresh has the present labels, and is not compared with them.
-fn settle_by(
+/// The watcher of a view meets the scribe: what is the same by the view is joined by the entries that were posted, and where
+/// these are those of the watcher's last take, the view has the labels that are shown.
+#[inline]
+fn meet_scribe(board: &Board, watcher: &mut Watcher, scribe: &mut Scribe)
+    requires watcher { watcher.old.board ≡ board.now.id }
+    requires scribe { scribe.old.board ≡ board.now.id }
+    ensures watcher { watcher.new ≡ watcher.old }
+    ensures scribe { scribe.new ≡ scribe.old }
+    ensures joined { (m n : ℕ) → IsTrue (same_by watcher.old.read m n) → Joined scribe.old.posted m n }
+    ensures fresh { watcher.old.since ≡ scribe.old.posted → AllShown scribe.old.shown watcher.old.read }
+{
+    law_met();
+    board.meet(watcher, scribe);
+}
+
+/// Settles a pair of which a search found nothing. A view that is told to be fresh has the present labels, and is not compared
+/// with them.
+#[inline]
+fn settle_missed_by(
     chase: &mut Chase<'_>,
     ticket: Ticket,
     view: &View,
-    outcome: Outcome,
     woken: &mut Woken,
     is_fresh: bool,
 ) -> Settled
     requires ends { PairAt chase.old.setup.task ticket.pair ticket.a ticket.b }
     requires near { ListsNear chase.old.setup.task ticket.a ticket.b view.now.pairs }
-    requires outcome { IsRightOutcome chase.old.setup.task (state_in chase.old) ticket view.now.pairs outcome }
+    requires outcome { IsRightOutcome chase.old.setup.task (state_in chase.old) ticket view.now.pairs Missed }
     requires fresh { IsTrue is_fresh → IsPresent (state_in chase.old) view.now.pairs }
-    ensures settles { Settles chase.old ticket view.now.pairs outcome result chase.new }
+    ensures settles { Settles chase.old ticket view.now.pairs Missed result chase.new }
     ensures woken { Notes chase.old ticket.pair result chase.new woken.old.room woken.new.list }
     ensures setup { chase.new.setup ≡ chase.old.setup }
-    ensures grows { (more : List Entry) × (chase.new.book.journal ≡ chase.old.book.journal ++ more) }
+    ensures book { chase.new.book ≡ chase.old.book }
 {
     if is_fresh {
-        chase.settle_fresh(ticket, view, outcome, woken)
+        chase.settle_missed(ticket, view, woken)
     } else {
-        chase.settle(ticket, view, outcome, woken)
+        chase.settle(ticket, view, Outcome::Missed, woken)
     }
 }
 
@@ -109,17 +129,52 @@ impl<'a> Shared<'a> {
         self.chase.take_unseen(hint)
     }
 
-    /// Settles a pair that was taken, by what a search with a view came to that the watcher filled since there were so many
-    /// entries. The watcher meets the scribe first, so that what is the same by the view is joined by the journal; and where
-    /// there are no more entries, the view has the present labels, and nothing is compared. An entry is posted.
-    pub(crate) fn settle(
+    /// Settles a pair that was taken, of which a search found something with a view that the watcher filled. The watcher meets
+    /// the scribe first, so that what is the same by the view is joined by the journal. An entry is posted.
+    pub(crate) fn settle_found(
+        &mut self,
+        board: &Board,
+        watcher: &mut Watcher,
+        ticket: Ticket,
+        view: &View,
+        finding: &Finding,
+        woken: &mut Woken,
+    ) -> Settled
+        requires board { board_over self.old.chase.setup self.old.scribe.board ≡ board.now }
+        requires watcher { (watcher.old.board ≡ board.now.id) × (watcher.old.read ≡ view.now.pairs) }
+        requires ends { PairAt self.old.chase.setup.task ticket.pair ticket.a ticket.b }
+        requires near { ListsNear self.old.chase.setup.task ticket.a ticket.b view.now.pairs }
+        requires found { IsFoundBy self.old.chase.setup.task ticket view.now.pairs (Found finding.now) }
+        ensures settles { Settles self.old.chase ticket view.now.pairs (Found finding.now) result self.new.chase }
+        ensures watcher { watcher.new ≡ watcher.old }
+        ensures setup { self.new.chase.setup ≡ self.old.chase.setup }
+        ensures board { self.new.scribe.board ≡ self.old.scribe.board }
+        ensures grows { (more : List Entry) × (self.new.chase.book.journal ≡ self.old.chase.book.journal ++ more) }
+        ensures woken { All (λ p. p < length self.old.chase.setup.task.pairs) woken.new.list }
+    {
+        law_held();
+        self.holds();
+        meet_scribe(board, watcher, &mut self.scribe);
+        let outcome = Outcome::Found(*finding);
+        let settled = self.chase.settle(ticket, view, outcome, woken);
+        if let Settled::Entered(_) = settled {
+            post_last(board, &mut self.scribe, &self.chase);
+        }
+        settled
+    }
+
+    /// Settles a pair that was taken, of which a search found nothing with a view that the watcher filled since there were so
+    /// many entries. The watcher meets the scribe first; where there are no more entries, the view has the present labels, and
+    /// nothing is compared. Nothing is entered, so nothing is posted, and no finding is passed on: this is what becomes of
+    /// nearly all pairs.
+    #[inline]
+    pub(crate) fn settle_missed(
         &mut self,
         board: &Board,
         watcher: &mut Watcher,
         since: usize,
         ticket: Ticket,
         view: &View,
-        outcome: Outcome,
         woken: &mut Woken,
     ) -> Settled
         requires board { board_over self.old.chase.setup self.old.scribe.board ≡ board.now }
@@ -127,24 +182,18 @@ impl<'a> Shared<'a> {
         requires since { IsSince self.old.chase.book.journal watcher.old.since since }
         requires ends { PairAt self.old.chase.setup.task ticket.pair ticket.a ticket.b }
         requires near { ListsNear self.old.chase.setup.task ticket.a ticket.b view.now.pairs }
-        requires found { IsFoundBy self.old.chase.setup.task ticket view.now.pairs outcome }
-        ensures settles { Settles self.old.chase ticket view.now.pairs outcome result self.new.chase }
+        requires found { IsFoundBy self.old.chase.setup.task ticket view.now.pairs Missed }
+        ensures settles { Settles self.old.chase ticket view.now.pairs Missed result self.new.chase }
         ensures watcher { watcher.new ≡ watcher.old }
         ensures setup { self.new.chase.setup ≡ self.old.chase.setup }
         ensures board { self.new.scribe.board ≡ self.old.scribe.board }
-        ensures grows { (more : List Entry) × (self.new.chase.book.journal ≡ self.old.chase.book.journal ++ more) }
+        ensures book { self.new.chase.book ≡ self.old.chase.book }
         ensures woken { All (λ p. p < length self.old.chase.setup.task.pairs) woken.new.list }
     {
-        law_met();
         law_fresh();
-        law_held();
         self.holds();
-        board.meet(watcher, &mut self.scribe);
+        meet_scribe(board, watcher, &mut self.scribe);
         let is_fresh = self.chase.book().journal().len() == since;
-        let settled = settle_by(&mut self.chase, ticket, view, outcome, woken, is_fresh);
-        if let Settled::Entered(_) = settled {
-            post_last(board, &mut self.scribe, &self.chase);
-        }
-        settled
+        settle_missed_by(&mut self.chase, ticket, view, woken, is_fresh)
     }
 }

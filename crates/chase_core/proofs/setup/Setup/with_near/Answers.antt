@@ -1,7 +1,7 @@
 -- The parts are those of the task.
 use Rattle.std.proofs.Common.{subst, ◌<◌, ◌∙◌, ap, sym, min}
 use Rattle.chase_core.specs.Setup.{IsMost}
-use Rattle.chase_core.proofs.setup.Setup.with_keys.Goals as goal
+use Rattle.chase_core.proofs.setup.Setup.with_near.Goals as goal
 
 pub invariant_of-result : goal.invariant_of-result
 invariant_of-result c =
@@ -18,16 +18,16 @@ invariant_of-result c =
       few_patterns = c.requires.few_patterns;
       few_pairs = c.requires.few_pairs;
       plans = rw c.deref-2.ensures.value at c.in_ok-plans.ensures;
-      near = record { one_each = c.in_ok-near.ensures.count; exact = rw c.deref-3.ensures.value at c.in_ok-near.ensures.near };
+      near = record { one_each = c.requires.near.one_each; exact = c.requires.near.exact };
       ranges = c.requires.keys;
       widest = record {
         most = c.most_near.result;
-        is_most = subst (λ ps. IsMost c.in_ok-near.near.near ps c.most_near.result) c.deref-5.ensures.value c.most_near.ensures;
+        is_most = subst (λ ps. IsMost c.args.near.near ps c.most_near.result) c.deref-4.ensures.value c.most_near.ensures;
         least = c.min-widest.ensures ∙ ap (min c.most_near.result) (c.from.ensures ∙ c.names-names.ensures.names);
       };
       by_end =
           let count = c.names-names.ensures.names in
-          let exact = rw c.deref-4.ensures.value at c.in_ok-ends.ensures.exact in
+          let exact = rw c.deref-3.ensures.value at c.in_ok-ends.ensures.exact in
           record {
             one_each = c.in_ok-ends.ensures.one_each ∙ count;
             ascending = λ e h. c.in_ok-ends.ensures.ascending e (subst (λ n. e < n) (sym count) h);
