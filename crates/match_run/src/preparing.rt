@@ -3,15 +3,18 @@
 ghost use Rattle.std.specs.Prelude.{◌≡◌, ◌<◌, ◌^◌, ◌↔◌, ℕ, Contains, length, IfOk, IfErr, OnOk};
 ghost use Rattle.chase_laws.specs.Candidate.{IsCandidate, IsCandidateCount};
 ghost use Rattle.chase_laws.specs.Pairing.{ArePairedBy};
+ghost use Rattle.near_lists.specs.Neighbourhoods.{AreNearNames};
 ghost use Rattle.pair_seed.specs.Pairs.{HasMoreCandidates};
 ghost use Rattle.pair_seed.specs.Stop.{IsRightStop};
+ghost use Rattle.match_run.specs.Kept.{AreKept};
 
 use chase_core::Setup;
 use chase_laws::Pattern;
-use pair_filter::keep_with_keys;
-use pair_seed::{SeedStop, seed};
+use near_lists::Near;
+use pair_filter::{KeptPairs, keep_with_keys};
+use pair_seed::{SeedStop, seed_in_threads};
 use std::alloc::Global;
-use std::thread::Threads;
+use std::thread::{Threads, join};
 use typed_graph::Graph;
 
 /// What a chase works on, and how many candidate pairs there are, those that the filter rules out counted too.
@@ -22,8 +25,72 @@ pub struct Prepared {
     pub seeded: u64,
 }
 
+/// In a graph of fewer names a thread costs more than it saves.
+const FEW_NAMES: u32 = 4096;
+
+/// The candidate pairs that the filter keeps, and how many there were before.
+#[derive(Drop)]
+struct Candidates {
+    kept: KeptPairs,
+    /// The number of candidate pairs.
+    seeded: u64,
+}
+
+/// Finds the candidate pairs, and keeps those that some key pairs to depth 2. `threads` says how many threads may find and filter
+/// them, the caller's among them.
+fn kept_candidates<R: Threads + Sync>(
+    rt: &R,
+    alloc: Global,
+    threads: u32,
+    graph: &Graph,
+    patterns: &[Pattern],
+    limit: u64,
+) -> Result<Candidates, SeedStop>
+    requires { limit < 2 ^ 32 }
+    ensures kept { IfOk result (λ c. AreKept graph.now patterns.now c.kept.pairs.items c.kept.keys.items c.seeded) }
+    ensures no_more { OnOk result (¬ (HasMoreCandidates graph.now patterns.now limit)) }
+    ensures stop { IfErr result (IsRightStop graph.now patterns.now limit) }
+{
+    let candidates = seed_in_threads(rt, alloc, threads, graph, patterns, limit)?;
+    let seeded = candidates.len() as u64;
+    let kept = keep_with_keys(rt, alloc, threads, graph, patterns, &candidates)?;
+    Ok(Candidates { kept, seeded })
+}
+
+/// The candidate pairs that are kept, and the near lists. With two threads or more the near lists of a larger graph are made in a
+/// second one meanwhile, if one can be started. What stops the candidates is the answer, whatever became of the near lists.
+fn candidates_and_near<R: Threads + Sync>(
+    rt: &R,
+    alloc: Global,
+    threads: u32,
+    graph: &Graph,
+    patterns: &[Pattern],
+    limit: u64,
+) -> Result<(Candidates, Near), SeedStop>
+    requires { limit < 2 ^ 32 }
+    ensures kept { IfOk result (λ r. AreKept graph.now patterns.now r.0.kept.pairs.items r.0.kept.keys.items r.0.seeded) }
+    ensures near { IfOk result (λ r. AreNearNames graph.now patterns.now r.1.near) }
+    ensures no_more { OnOk result (¬ (HasMoreCandidates graph.now patterns.now limit)) }
+    ensures stop { IfErr result (IsRightStop graph.now patterns.now limit) }
+{
+    if threads < 2 || graph.names() < FEW_NAMES {
+        let candidates = kept_candidates(rt, alloc, threads, graph, patterns, limit)?;
+        let near = Near::build(alloc, graph, patterns)?;
+        return Ok((candidates, near));
+    }
+    let (near, candidates) = join(
+        rt,
+        || Near::build(alloc, graph, patterns),
+        || -> Result<Candidates, SeedStop>
+            requires { limit < 2 ^ 32 }
+        { kept_candidates(rt, alloc, threads, graph, patterns, limit) },
+    );
+    Ok((candidates?, near?))
+}
+
 /// Prepares a chase of a graph under keys, over those of the candidate pairs that some key pairs to depth 2. `threads` says how
-/// many threads may be used, the caller's among them; the answer is the same.
+/// many threads may find and filter them, the caller's among them; with two or more, one besides makes the near lists of a larger
+/// graph meanwhile. The answer is the same.
 ///
 /// `TooManyPairs` comes exactly where there are more candidate pairs than `limit`, and `NoMemory` where memory ran out.
 pub fn prepare<R: Threads + Sync>(
@@ -43,9 +110,8 @@ pub fn prepare<R: Threads + Sync>(
     ensures no_more { OnOk result (¬ (HasMoreCandidates graph patterns.items limit)) }
     ensures stop { IfErr result (IsRightStop graph patterns.items limit) }
 {
-    let candidates = seed(alloc, &graph, &patterns, limit)?;
-    let seeded = candidates.len() as u64;
-    let kept = keep_with_keys(rt, alloc, threads, &graph, &patterns, &candidates)?;
-    let setup = Setup::with_keys(alloc, graph, patterns, kept.pairs, kept.keys)?;
+    let (found, near) = candidates_and_near(rt, alloc, threads, &graph, &patterns, limit)?;
+    let Candidates { kept, seeded } = found;
+    let setup = Setup::with_near(alloc, graph, patterns, kept.pairs, kept.keys, near)?;
     Ok(Prepared { setup, seeded })
 }
