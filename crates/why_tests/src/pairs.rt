@@ -2,6 +2,7 @@
 
 use crate::supported::are_supported;
 use crate::worked_journals::{ALBUMS, CHAINS, Worked, names};
+use fixtures::texts::{ALBUM_AND_ARTIST_PROOF, ALBUM_PROOF, NO_STEPS};
 use proof_graph::put_proof;
 use std::alloc::Global;
 use std::test::Fail;
@@ -36,43 +37,81 @@ fn answered(alloc: Global, of: &Worked, a: u32, b: u32) -> Result<Answer, Fail> 
     }
 }
 
+/// The first two steps of the proof of the four albums and their artists, with the terms that they need.
+const TWO_STEPS: &str = "\
+gkey-proof 2
+terms 7
+<urn:al1>
+\"Anthology 2\"
+\"1996\"
+<urn:al2>
+<urn:ar1>
+\"The Beatles\"
+<urn:ar2>
+step album_year
+left 1 2 3
+right 4 2 3
+done
+step artist
+left 5 1 6
+right 7 4 6
+by 1 1
+done
+end 2
+";
+
+/// Two entries that lead from a name to another through a third.
+const THROUGH_A_THIRD: &str = "\
+gkey-proof 2
+terms 5
+<urn:al1>
+\"Anthology 2\"
+<urn:al2>
+\"Help!\"
+<urn:ar1>
+step value
+left 1 2
+right 3 2
+done
+step value
+left 3 4
+right 5 4
+done
+end 2
+";
+
+/// Two other entries, of which the second leads back to the third name.
+const BACK_TO_A_THIRD: &str = "\
+gkey-proof 2
+terms 5
+<urn:al3>
+\"Anthology 2\"
+<urn:al4>
+<urn:ar2>
+\"Help!\"
+step value
+left 1 2
+right 3 2
+done
+step value
+left 4 5
+right 3 5
+done
+end 2
+";
+
 /// Two names of the albums, the goal and the text of the proof.
-static ALBUM_PAIRS: [(u32, u32, &[u32], &[u8]); 4] = [
-    (
-        0,
-        1,
-        &[1],
-        b"gkey-proof 2\nterms 4\n<urn:al1>\n\"Anthology 2\"\n\"1996\"\n<urn:al2>\nstep album_year\nleft 1 2 3\nright 4 2 3\ndone\nend 1\n",
-    ),
-    (
-        5,
-        4,
-        &[2],
-        b"gkey-proof 2\nterms 7\n<urn:al1>\n\"Anthology 2\"\n\"1996\"\n<urn:al2>\n<urn:ar1>\n\"The Beatles\"\n<urn:ar2>\nstep album_year\nleft 1 2 3\nright 4 2 3\ndone\nstep artist\nleft 5 1 6\nright 7 4 6\nby 1 1\ndone\nend 2\n",
-    ),
-    (
-        2,
-        3,
-        &[3],
-        b"gkey-proof 2\nterms 10\n<urn:al1>\n\"Anthology 2\"\n\"1996\"\n<urn:al2>\n<urn:ar1>\n\"The Beatles\"\n<urn:ar2>\n<urn:al3>\n\"Help!\"\n<urn:al4>\nstep album_year\nleft 1 2 3\nright 4 2 3\ndone\nstep artist\nleft 5 1 6\nright 7 4 6\nby 1 1\ndone\nstep album_by\nleft 8 5 9\nright 10 7 9\nby 1 2\ndone\nend 3\n",
-    ),
-    (0, 0, &[], b"gkey-proof 2\nterms 0\nend 0\n"),
+static ALBUM_PAIRS: [(u32, u32, &[u32], &str); 4] = [
+    (0, 1, &[1], ALBUM_PROOF),
+    (5, 4, &[2], TWO_STEPS),
+    (2, 3, &[3], ALBUM_AND_ARTIST_PROOF),
+    (0, 0, &[], NO_STEPS),
 ];
 
 /// The same of five entries, of which two lead through a third name, from either side.
-static CHAIN_PAIRS: [(u32, u32, &[u32], &[u8]); 2] = [
-    (
-        0,
-        4,
-        &[1, 2],
-        b"gkey-proof 2\nterms 5\n<urn:al1>\n\"Anthology 2\"\n<urn:al2>\n\"Help!\"\n<urn:ar1>\nstep value\nleft 1 2\nright 3 2\ndone\nstep value\nleft 3 4\nright 5 4\ndone\nend 2\n",
-    ),
-    (
-        5,
-        2,
-        &[2, 1],
-        b"gkey-proof 2\nterms 5\n<urn:al3>\n\"Anthology 2\"\n<urn:al4>\n<urn:ar2>\n\"Help!\"\nstep value\nleft 1 2\nright 3 2\ndone\nstep value\nleft 4 5\nright 3 5\ndone\nend 2\n",
-    ),
+static CHAIN_PAIRS: [(u32, u32, &[u32], &str); 2] = [
+    (0, 4, &[1, 2], THROUGH_A_THIRD),
+    (5, 2, &[2, 1], BACK_TO_A_THIRD),
 ];
 
 /// Whether a pair has this goal and this proof.
@@ -81,10 +120,12 @@ fn has_answer(
     of: &Worked,
     pair: (u32, u32),
     goal: &[u32],
-    text: &[u8],
+    text: &str,
 ) -> Result<bool, Fail> {
     match answered(alloc, of, pair.0, pair.1)? {
-        Answer::Why(found, steps) => Ok(found.as_slice() == text && steps.as_slice() == goal),
+        Answer::Why(found, steps) => Ok(
+            found.as_slice() == text.as_bytes() && steps.as_slice() == goal,
+        ),
         Answer::Unfit | Answer::Apart => Ok(false),
     }
 }
