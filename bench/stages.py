@@ -6,8 +6,9 @@ Usage: bench/stages.py [KIND SIZE ..]
 
 The kinds are those of bench/graphs.py. Times are seconds by the clock, each the least of three runs, which come in turn.
 `searches` are those of the chase by so many workers: what goes beyond the kept pairs was searched again, because it was woken or
-because a label had changed meanwhile. `times` is how often the time of one worker holds that of so many, in the chase and in the
-whole run. At the end stands the load of the machine.
+because a label had changed meanwhile. `all` is the chase over all candidate pairs, none of them filtered and each searched by
+all keys: the filter pays where `filter` and `chase` are less together. `times` is how often the time of one worker holds that of
+so many, in the chase and in the whole run. At the end stands the load of the machine.
 """
 
 import pathlib
@@ -24,15 +25,15 @@ NEEDS = ["match_run", "steal_pool", "chase_core", "pair_filter", "pair_seed", "g
 PROCESSORS = {0: "0", 1: "0", 2: "0,1", 4: "0-3"}  # by the number of workers
 PLAN = [("crowded", 10 ** 6), ("bibliography", 10 ** 6), ("missed", 10 ** 6), ("matched", 10 ** 6), ("woken", 10 ** 6),
         ("chain", 10 ** 5)]
-COLUMNS = "{:>13} {:>9} {:>4} {:>9} {:>9} {:>9} {:>8} {:>8} {:>8} {:>8} {:>6} {:>6}"
+COLUMNS = "{:>13} {:>9} {:>4} {:>9} {:>9} {:>9} {:>8} {:>8} {:>8} {:>8} {:>8} {:>6} {:>6}"
 
 
 def stages(program, graph, keys, workers):
-    """Counts of pairs, kept pairs and searches, and the seconds of the candidates, the filter and the chase."""
+    """Counts of pairs, kept pairs and searches, and the seconds of the candidates, the filter, the chase, and that over all."""
     command = ["taskset", "-c", PROCESSORS[workers], str(program), str(graph), str(keys), str(workers)]
-    words = [int(word) for word in subprocess.run(command, check=True, capture_output=True, text=True).stdout.split()]
-    pairs, kept, searches, seeded, filtered, ready, chased = words
-    return (pairs, kept, searches), (seeded / 1e6, (filtered - seeded) / 1e6, (chased - ready) / 1e6)
+    kept, over_all = ([int(word) for word in subprocess.run([*command, which], check=True, capture_output=True, text=True).stdout.split()]
+                      for which in ("kept", "all"))
+    return kept[:3], [microseconds / 1e6 for microseconds in (*kept[3:], over_all[5])]
 
 
 def whole(graph, keys, workers):
@@ -46,9 +47,9 @@ def whole(graph, keys, workers):
 def measure(program, folder, kind, size):
     graph, keys = written(folder, kind, size)
     runs = [{w: (*stages(program, graph, keys, w), whole(graph, keys, w)) for w in PROCESSORS} for _ in range(3)]
-    least = {w: [min(run[w][1][stage] for run in runs) for stage in range(3)] + [min(run[w][2] for run in runs)] for w in PROCESSORS}
+    least = {w: [min(run[w][1][stage] for run in runs) for stage in range(4)] + [min(run[w][2] for run in runs)] for w in PROCESSORS}
     for workers, seconds in least.items():
-        times = (least[1][stage] / max(seconds[stage], 1e-6) for stage in (2, 3))
+        times = (least[1][stage] / max(seconds[stage], 1e-6) for stage in (2, 4))
         print(COLUMNS.format(kind, size, workers, *runs[0][workers][0], *(f"{s:.3f}" for s in seconds), *(f"{t:.2f}" for t in times)), flush=True)
 
 
@@ -57,7 +58,7 @@ def main():
     with tempfile.TemporaryDirectory() as name:
         folder = pathlib.Path(name)
         program = build(folder, "stage_times", NEEDS)
-        print(COLUMNS.format("graph", "size", "by", "pairs", "kept", "searches", "seed", "filter", "chase", "whole", "times", "times"))
+        print(COLUMNS.format("graph", "size", "by", "pairs", "kept", "searches", "seed", "filter", "chase", "all", "whole", "times", "times"))
         for kind, size in planned(sys.argv[1:], PLAN):
             measure(program, folder, kind, size)
     print_load()
