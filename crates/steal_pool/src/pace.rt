@@ -1,6 +1,6 @@
 //! How a worker's turns go.
 
-/// After so many steps of a chain, one after another, or so many more crowded turns than others, a worker goes on alone.
+/// After so many steps of a chain, or so many crowded turns, one after another, a worker goes on alone.
 const ALONE: u32 = 256;
 
 /// A post writes a label for each name of the class that its entry made. Where that came to more than so many labels an entry,
@@ -34,11 +34,14 @@ impl Settlement {
         self.left.saturating_sub(self.found)
     }
 
-    /// Whether others waited, though a quarter or more of the searches came to entries or to nothing: an entry takes its turn
-    /// longer than a search takes the others, and lets more of these be for nothing, so they only get in each other's way.
+    /// Whether others waited, though next to nothing came of the searches but entries and waste: then they only get in each
+    /// other's way.
     fn is_crowded(&self) -> bool {
-        let busy = self.entered().saturating_add(self.wasted);
-        self.wanted && busy > 0 && busy >= self.settled / 4
+        let rest = self
+            .settled
+            .saturating_sub(self.entered())
+            .saturating_sub(self.wasted);
+        self.wanted && self.settled > 0 && rest <= self.settled / 4
     }
 
     /// Whether more than a quarter of its searches were for nothing.
@@ -53,7 +56,7 @@ impl Settlement {
 pub struct Pace {
     /// How many steps of a chain the last turns were.
     steps: u32,
-    /// How many more turns were crowded than not, since it was 0 last.
+    /// How many of the last turns, one after another, were crowded.
     crowded: u32,
     /// How many entries all its turns made.
     entered: usize,
@@ -68,15 +71,6 @@ pub struct Pace {
 /// One more than that, where it goes on, and else 0.
 fn counted(count: u32, goes_on: bool) -> u32 {
     if goes_on { count.saturating_add(1) } else { 0 }
-}
-
-/// One more where a turn is crowded, and else one less.
-fn weighed(count: u32, is_crowded: bool) -> u32 {
-    if is_crowded {
-        count.saturating_add(1)
-    } else {
-        count.saturating_sub(1)
-    }
 }
 
 impl Pace {
@@ -97,7 +91,7 @@ impl Pace {
         let is_step = self.woke && turn.entered() > 0 && turn.found == self.seen;
         Pace {
             steps: counted(self.steps, is_step),
-            crowded: weighed(self.crowded, turn.is_crowded()),
+            crowded: counted(self.crowded, turn.is_crowded()),
             entered: self.entered.saturating_add(turn.entered()),
             written: self
                 .written
