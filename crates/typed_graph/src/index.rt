@@ -5,7 +5,7 @@ ghost use Rattle.std.specs.List.Sorted.{IsStrictlyIncreasing, IsNonDecreasing};
 ghost use Rattle.typed_graph.specs.Table.{TableHas};
 ghost use Rattle.typed_graph.specs.Blocks.{RowsRise, IsStart, AreRowStarts};
 
-use crate::ascending::{cut, lower, upper};
+use crate::ascending::{cut, lower, upper_from};
 use crate::rows::{sorted, sorted_in_threads};
 use gk_base::NoMemory;
 use std::alloc::Global;
@@ -90,7 +90,7 @@ impl Index {
         let to = self.starts[at + 1];
         let block = &self.middles[from..to];
         let low = lower(block, p);
-        let high = upper(block, p);
+        let high = upper_from(block, low, p);
         cut(&self.lasts, from + low, from + high)
     }
 
