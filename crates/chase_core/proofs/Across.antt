@@ -4,7 +4,8 @@ use Rattle.chase_laws.specs.Core.{Task, IsTask, name_count, PairAt}
 use Rattle.chase_laws.proofs.CallerLemmas.{near_named, All-at}
 use Rattle.list_pool.specs.Pool.{list_at}
 use Rattle.class_book.specs.Classes.{Classes, class_of, IsClass, IsLabelled}
-use Rattle.chase_core.specs.Setup.{Preparation, IsNearTo}
+use Rattle.near_lists.specs.Neighbourhoods.{AreNearNames}
+use Rattle.chase_core.specs.Setup.{Preparation}
 use Rattle.chase_core.specs.Gathering.{HasEnds, LooksPast, LooksAcross}
 
 -- the ends of a pair are names
@@ -23,7 +24,7 @@ turned_ends pairs q e o h = elim h [ inl k ↦ inr k | inr k ↦ inl k ]
 pub turned_across : (S : Preparation) (labels : _) (k l q : ℕ) → LooksAcross S labels k l q → LooksAcross S labels l k q
 turned_across S labels k l q h = (h.1, h.0, turned_ends S.task.pairs q h.0 h.1 h.2, h.4, h.3)
 
-module _ (S : Preparation) (ok : IsTask S.task) (near : IsNearTo S.task S.near.near) (book : Classes) (names : length book.labels ≡ name_count S.task) (labelled : IsLabelled book.labels book.journal) where
+module _ (S : Preparation) (ok : IsTask S.task) (near : AreNearNames S.task.graph S.task.patterns S.near.near) (book : Classes) (names : length book.labels ≡ name_count S.task) (labelled : IsLabelled book.labels book.journal) where
   -- what is near to a name has a label
   pub looked_named : (e n : ℕ) → e < name_count S.task → Contains (list_at S.near.near e) n → n < length book.labels
   looked_named e n h c = near_named S.task ok book.labels names e n ((near.exact e n h).0 c)

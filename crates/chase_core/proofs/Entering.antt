@@ -5,7 +5,8 @@ use Rattle.chase_laws.specs.Joined.{LabelsJoin}
 use Rattle.chase_laws.specs.Core.{IsTask, name_count, PairAt, AreBroughtTogether}
 use Rattle.chase_laws.proofs.CallerLemmas.{near_named}
 use Rattle.class_book.specs.Classes.{Classes, relabelled, staying, going}
-use Rattle.chase_core.specs.Setup.{Preparation, IsNearTo}
+use Rattle.near_lists.specs.Neighbourhoods.{AreNearNames}
+use Rattle.chase_core.specs.Setup.{Preparation}
 use Rattle.chase_core.specs.Table.{Standings}
 use Rattle.chase_core.specs.Running.{state_of}
 use Rattle.chase_core.specs.Gathering.{LooksAt, LooksAcross}
@@ -17,7 +18,7 @@ use Rattle.chase_core.proofs.Relabelling.{brought_from, brought_to}
 pub room_is : (n pairs names room : ℕ) → room ≡ min pairs (names - 1) → (n < pairs) × (n + 1 < names) → n < room
 room_is n pairs names room e h = omega arith
 
-module _ (S : Preparation) (ok : IsTask S.task) (near : IsNearTo S.task S.near.near) (old new : Classes) (a b : ℕ) (names : length old.labels ≡ name_count S.task)
+module _ (S : Preparation) (ok : IsTask S.task) (near : AreNearNames S.task.graph S.task.patterns S.near.near) (old new : Classes) (a b : ℕ) (names : length old.labels ≡ name_count S.task)
     (a_in : a < length old.labels) (b_in : b < length old.labels) (joins : LabelsJoin old.labels old.journal) (apart : slice_index old.labels a ≢ slice_index old.labels b)
     (labels : let x = slice_index old.labels a in let y = slice_index old.labels b in new.labels ≡ relabelled old.labels (going old.labels x y) (staying old.labels x y))
     (zero three : Standings) where

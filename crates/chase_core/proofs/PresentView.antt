@@ -20,7 +20,8 @@ use Rattle.class_book.specs.Classes.{Classes}
 use Rattle.chase_core.specs.declared.ticket.Ticket.{Ticket}
 use Rattle.chase_core.specs.declared.ticket.Outcome.TheVariants as outcome
 use Rattle.chase_core.specs.declared.ticket.Settled.TheVariants as settled
-use Rattle.chase_core.specs.Setup.{Preparation, IsNearTo}
+use Rattle.near_lists.specs.Neighbourhoods.{AreNearNames}
+use Rattle.chase_core.specs.Setup.{Preparation}
 use Rattle.chase_core.specs.Table.{Standings}
 use Rattle.chase_core.specs.Running.{state_of, running_with}
 use Rattle.chase_core.specs.Present.{same_by_labels, SettlesPresent}
@@ -110,7 +111,7 @@ labels_join S labels m n h = elim (or_cases (m == n) (both_equal (slice_get S.la
 
 -- ---- the view
 
-module _ (S : Preparation) (ok : IsTask S.task) (near : IsNearTo S.task S.near.near) (st : State) (count : length st.labels ≡ name_count S.task) (t : Ticket) (ends : PairAt S.task t.pair t.a t.b) where
+module _ (S : Preparation) (ok : IsTask S.task) (near : AreNearNames S.task.graph S.task.patterns S.near.near) (st : State) (count : length st.labels ≡ name_count S.task) (t : Ticket) (ends : PairAt S.task t.pair t.a t.b) where
   abbrev near_a : List ℕ
   near_a = list_at S.near.near t.a
 
@@ -163,7 +164,7 @@ module _ (S : Preparation) (ok : IsTask S.task) (near : IsNearTo S.task S.near.n
 
 -- ---- the two answers
 
-module _ (S : Preparation) (ok : IsTask S.task) (near : IsNearTo S.task S.near.near) (book new_book : Classes) (old new : Standings) (count : length book.labels ≡ name_count S.task) (t : Ticket) (ends : PairAt S.task t.pair t.a t.b) where
+module _ (S : Preparation) (ok : IsTask S.task) (near : AreNearNames S.task.graph S.task.patterns S.near.near) (book new_book : Classes) (old new : Standings) (count : length book.labels ≡ name_count S.task) (t : Ticket) (ends : PairAt S.task t.pair t.a t.b) where
   pub missed_present : ¬ (Joined book.journal t.a t.b) → ¬ (Matches S.task.graph S.task.patterns (same_by_labels book.labels) t.a t.b) →
       new.states ≡ slice_set old.states t.pair state.Missed → new.ready ≡ without old.ready t.pair →
       SettlesPresent (running_with S book old) t settled.Missed (running_with S book new)

@@ -13,7 +13,8 @@ use Rattle.paired_search.specs.Plans.{ArePlans}
 use Rattle.chase_core.specs.declared.ticket.Settled.{Settled}
 use Rattle.chase_core.specs.declared.ticket.Settled.TheVariants as settled
 use Rattle.chase_core.specs.Table.{Standings, IsReadyList}
-use Rattle.chase_core.specs.Setup.{Preparation, AreRangesFor, IsNearTo, IsWidest}
+use Rattle.near_lists.specs.Neighbourhoods.{AreNearNames}
+use Rattle.chase_core.specs.Setup.{Preparation, AreRangesFor, IsWidest}
 use Rattle.chase_core.specs.Running.{Running, state_in, journal_room}
 use Rattle.chase_core.specs.Settling.{IsFirstOvertaken, GoesLast}
 
@@ -42,7 +43,7 @@ pub record IsPreparation (S : Preparation) (keys : List KeyRange) (ends : List (
   pub few_patterns : length S.task.patterns < 2 ^ 32
   pub few_pairs : length S.task.pairs < 2 ^ 32
   pub plans : ArePlans S.task.patterns S.plans
-  pub near : IsNearTo S.task S.near.near
+  pub near : AreNearNames S.task.graph S.task.patterns S.near.near
   pub widest : IsWidest S
   pub ranges : AreRangesFor S.task.graph S.task.patterns S.task.pairs keys
   pub by_end : AreEnds S.task ends

@@ -2,7 +2,6 @@
 use Rattle.std.specs.Prelude.{List, ℕ, Some, All, Any, Contains, length, min, slice_get, ◌≡◌, ◌<◌, ◌≤◌, ◌+◌, ◌⊎◌, ◌↔◌}
 use Rattle.chase_laws.specs.Shape.{Shape}
 use Rattle.chase_laws.specs.Graph.{NumberedGraph}
-use Rattle.chase_laws.specs.Near.{IsNear}
 use Rattle.chase_laws.specs.Core.{Task, name_count}
 use Rattle.key_plan.specs.Route.{Route}
 use Rattle.list_pool.specs.Pool.{list_at}
@@ -38,8 +37,3 @@ abbrev pub AreRangesFor : NumberedGraph → List Shape → List (ℕ × ℕ) →
 AreRangesFor G K pairs ranges =
     (p : ℕ) (pair : ℕ × ℕ) (range : KeyRange) → slice_get pairs p ≡ Some pair → slice_get ranges p ≡ Some range →
     AreIdleOutside G K range pair.0 pair.1
-
--- the near lists are those of the task
-pub record IsNearTo (T : Task) (near : List (List ℕ)) : Type 0 where
-  pub one_each : length near ≡ name_count T
-  pub exact : (e n : ℕ) → e < name_count T → Contains (list_at near e) n ↔ IsNear T.graph T.patterns e n

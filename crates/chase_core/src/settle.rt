@@ -195,7 +195,8 @@ pub fn settle_parts(
     }
 }
 
-/// Settles a pair of which a search found nothing, where the view has the present labels: nothing is compared.
+/// Settles a pair of which a search found nothing, where the view has the present labels: nothing is compared. It takes a
+/// chase's fields as `settle_parts` does, so that the chase lends its table alone for the pair's mark.
 #[inline]
 pub fn settle_missed_parts(
     setup: &Setup,

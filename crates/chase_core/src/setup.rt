@@ -9,7 +9,7 @@ ghost use Rattle.paired_search.specs.KeyRange.{AreIdleOutside};
 ghost use Rattle.paired_search.specs.Plans.{ArePlans};
 ghost use Rattle.near_lists.specs.Neighbourhoods.{AreNearNames};
 ghost use Rattle.near_lists.specs.Turning.{HasEnd};
-ghost use Rattle.chase_core.specs.Setup.{AreRangesFor, IsMost, IsNearTo, IsWidest};
+ghost use Rattle.chase_core.specs.Setup.{AreRangesFor, IsMost, IsWidest};
 
 use crate::Ticket;
 use chase_laws::{Pattern, all_valid};
@@ -81,31 +81,13 @@ impl Setup {
         requires able { (a b : ℕ) → IsAble graph patterns.items a b → Contains pairs.items (a, b) }
         ensures { IfOk result (λ s. s.task ≡ record { graph = graph; patterns = patterns.items; pairs = pairs.items }) }
     {
-        Setup::with_keys(alloc, graph, patterns, pairs, Vec::new(alloc))
-    }
-
-    /// Prepares a chase as `new` does, in which only the keys of its range are searched for a pair: those outside of it can't
-    /// identify the pair, whatever is the same. For a pair without a range all keys are searched.
-    pub fn with_keys(
-        alloc: Global,
-        graph: Graph,
-        patterns: Vec<Pattern>,
-        pairs: Vec<(u32, u32)>,
-        keys: Vec<KeyRange>,
-    ) -> Result<Setup, NoMemory>
-        requires few_patterns { length patterns.items < 2 ^ 32 }
-        requires few_pairs { length pairs.items < 2 ^ 32 }
-        requires ascend { AreAscending pairs.items }
-        requires named { All (λ p. (p.0 < p.1) × (p.1 < length graph.literal)) pairs.items }
-        requires able { (a b : ℕ) → IsAble graph patterns.items a b → Contains pairs.items (a, b) }
-        requires keys { AreRangesFor graph patterns.items pairs.items keys.items }
-        ensures { IfOk result (λ s. s.task ≡ record { graph = graph; patterns = patterns.items; pairs = pairs.items }) }
-    {
         let near = Near::build(alloc, &graph, &patterns)?;
-        Setup::with_near(alloc, graph, patterns, pairs, keys, near)
+        Setup::with_near(alloc, graph, patterns, pairs, Vec::new(alloc), near)
     }
 
-    /// Prepares a chase as `with_keys` does, over near lists that were made of the graph and the patterns before.
+    /// Prepares a chase as `new` does, over near lists that were made of the graph and the patterns before, in which only the
+    /// keys of its range are searched for a pair: those outside of it can't identify the pair, whatever is the same. For a pair
+    /// without a range all keys are searched.
     pub fn with_near(
         alloc: Global,
         graph: Graph,
@@ -167,7 +149,7 @@ impl Setup {
     /// What is near to each name.
     pub fn near(&self) -> &Near
         ensures near { result.now ≡ self.now.near }
-        ensures exact { IsNearTo self.now.task self.now.near.near }
+        ensures exact { AreNearNames self.now.task.graph self.now.task.patterns self.now.near.near }
         ensures widest { IsWidest self.now }
     {
         &self.near
@@ -227,7 +209,7 @@ impl Setup {
     /// Says for proofs what holds of every setup. It does nothing.
     pub(crate) fn prepared(&self)
         ensures task { IsTask self.now.task }
-        ensures near { IsNearTo self.now.task self.now.near.near }
+        ensures near { AreNearNames self.now.task.graph self.now.task.patterns self.now.near.near }
         ensures plans { ArePlans self.now.task.patterns self.now.plans }
         ensures few_pairs { length self.now.task.pairs < 2 ^ 32 }
     {

@@ -72,8 +72,8 @@ fn pairs_in_threads<R: Threads + Sync>(
 }
 
 /// The candidate pairs, as `seed` gives them. `threads` says how many threads may be used, the caller's among them: the names
-/// are cut into as many runs, a thread finds the pairs whose lower name is in its run, and they are joined in order. The answer
-/// is the same whatever the number of threads.
+/// are cut into at most as many runs, none of them so short that a thread costs more than it saves; a thread finds the pairs
+/// whose lower name is in its run, and they are joined in order. The answer is the same whatever the number of threads.
 ///
 /// The fault, `TooManyPairs`, comes where there are more than `limit`, and `NoMemory` where memory ran out.
 pub fn seed_in_threads<R: Threads + Sync>(
