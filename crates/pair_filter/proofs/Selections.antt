@@ -1,11 +1,9 @@
 -- What is kept of pairs of which those with a property are kept.
-use Rattle.std.proofs.Common.{List, [], ◌∷◌, ◌++◌, ℕ, zero, suc, Option, Some, None, map, All, Contains, length, ◌≡◌, ◌<◌, ◌≤◌, ◌⊎◌, inl, inr, refl, sym, ap, subst, arith}
-use Rattle.std.specs.Prelude.{MatchOption}
-use Rattle.std.specs.List.{AllPairs, AllZip, filter_map}
+use Rattle.std.proofs.Common.{List, [], ◌∷◌, ◌++◌, ℕ, zero, suc, All, Contains, length, ◌≡◌, ◌<◌, ◌≤◌, ◌⊎◌, inl, inr, refl, sym, ap, subst, arith}
+use Rattle.std.specs.List.{AllPairs}
 use Rattle.std.proofs.lemmas.List.Elements.{All-cons, All-nil, All-contains, Contains-append_right, Contains-append_cases}
 use Rattle.std.proofs.lemmas.List.Kept.{AllPairs-cons}
 use Rattle.chase_laws.specs.Candidate.{AreAscending}
-use Rattle.paired_search.specs.declared.key_range.KeyRange.{KeyRange}
 use Rattle.pair_filter.specs.Selection.{IsSelection}
 
 module _ (P : ℕ × ℕ → Type 0) where
@@ -23,6 +21,14 @@ module _ (P : ℕ × ℕ → Type 0) where
   selection_skip (y ∷ xs) ys x h none = elim h [
     | inl r ↦ inl (r.0, r.1, r.2, selection_skip xs r.0 x r.3 none)
     | inr r ↦ inr (r.0, selection_skip xs ys x r.1 none)
+  ]
+
+  -- what is kept of two lists, one behind the other
+  pub selection_append : (xs zs ys ws : List (ℕ × ℕ)) → IsSelection P xs ys → IsSelection P zs ws → IsSelection P (xs ++ zs) (ys ++ ws)
+  selection_append [] zs ys ws h more = rw h more
+  selection_append (x ∷ xs) zs ys ws h more = elim h [
+    | inl r ↦ inl (r.0 ++ ws, r.1, ap (λ l. l ++ ws) r.2, selection_append xs zs r.0 ws r.3 more)
+    | inr r ↦ inr (r.0, selection_append xs zs ys ws r.1 more)
   ]
 
   nothing_in : (x : ℕ × ℕ) → ¬ (Contains [] x)
@@ -96,28 +102,3 @@ module _ (P : ℕ × ℕ → Type 0) where
     | inl r ↦ rw r.2 (omega (arith, selection_length xs r.0 r.3))
     | inr r ↦ omega (arith, selection_length xs ys r.1)
   ]
-
-module _ (P : ℕ × ℕ → Type 0) (R : ℕ × ℕ → KeyRange → Type 0) where
-  -- what a test gives of a pair: nothing where it has not the property, and else the pair with a range
-  abbrev pub Tells : ℕ × ℕ → Option ((ℕ × ℕ) × KeyRange) → Type 0
-  Tells x o = MatchOption o (¬ (P x)) (λ kept. (kept.0 ≡ x) × P x × R x kept.1)
-
-  -- the pairs that it gives are those that are kept
-  pub selection_told : (xs : List (ℕ × ℕ)) (os : List (Option ((ℕ × ℕ) × KeyRange))) → AllZip Tells xs os
-      → IsSelection P xs (map (λ k. k.0) (filter_map (λ o. o) os))
-  selection_told [] [] h = refl
-  selection_told [] (o ∷ os) h = absurd h
-  selection_told (x ∷ xs) [] h = absurd h
-  selection_told (x ∷ xs) (None ∷ os) h = inr (h.0, selection_told xs os h.1)
-  selection_told (x ∷ xs) (Some k ∷ os) h =
-      let rest : List (ℕ × ℕ) = map (λ q. q.0) (filter_map (λ o. o) os) in
-      inl (rest, h.0.1, ap (λ y. y ∷ rest) h.0.0, selection_told xs os h.1)
-
-  -- and each has its range beside it
-  pub ranges_told : (xs : List (ℕ × ℕ)) (os : List (Option ((ℕ × ℕ) × KeyRange))) → AllZip Tells xs os
-      → AllZip R (map (λ k. k.0) (filter_map (λ o. o) os)) (map (λ k. k.1) (filter_map (λ o. o) os))
-  ranges_told [] [] h = tt
-  ranges_told [] (o ∷ os) h = absurd h
-  ranges_told (x ∷ xs) [] h = absurd h
-  ranges_told (x ∷ xs) (None ∷ os) h = ranges_told xs os h.1
-  ranges_told (x ∷ xs) (Some k ∷ os) h = (subst (λ y. R y k.1) (sym h.0.0) h.0.2, ranges_told xs os h.1)

@@ -4,3 +4,4 @@ pub mod Keys
 -- inner invariants and words of the proofs
 pub mod Along
 pub mod Telling
+pub mod Reaching

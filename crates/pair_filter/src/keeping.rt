@@ -2,22 +2,22 @@
 
 ghost use Rattle.std.specs.Prelude.{◌<◌, ◌≤◌, ◌↔◌, ℕ, Contains, IfOk, length};
 ghost use Rattle.std.specs.List.{AllZip};
+ghost use Rattle.std.specs.Thread.{IsSync};
 ghost use Rattle.chase_laws.specs.Candidate.{AreAscending};
 ghost use Rattle.chase_laws.specs.Chase.{IsAble};
 ghost use Rattle.chase_laws.specs.Pairing.{ArePairedBy};
 ghost use Rattle.pair_filter.specs.Keys.{AreKeysOf};
 ghost use Rattle.pair_filter.specs.Selection.{IsSelection};
-ghost use Rattle.pair_filter.specs.Telling.{TellsKeys};
 
 use crate::keys::keys_of;
+use crate::reach::{all_keys, reach_along};
 use chase_laws::Pattern;
 use chase_laws::laws::law_paired;
 use gk_base::NoMemory;
 use paired_search::KeyRange;
 use rayon::current_num_threads;
-use rayon::prelude::*;
-use std::alloc::{AllocError, Global};
-use std::thread::Threads;
+use std::alloc::Global;
+use std::thread::{Threads, join};
 use typed_graph::Graph;
 
 /// Below so many pairs a thread costs more than it saves.
@@ -42,58 +42,25 @@ fn keep_alone(
 {
     let mut kept = Vec::new(alloc);
     let mut keys = Vec::new(alloc);
-    for pair in pairs {
-        let Some(range) = keys_of(graph, patterns, *pair) else {
+    let mut reach = all_keys(patterns, 0);
+    for place in 0..pairs.len() {
+        let pair = pairs[place];
+        if reach.name != pair.0 {
+            reach = reach_along(graph, patterns, pair.0, &pairs[place..]);
+        }
+        let Some(range) = keys_of(graph, patterns, &reach, pair) else {
             continue;
         };
-        kept.push(*pair)?;
+        kept.push(pair)?;
         keys.push(range)?;
     }
     Ok(KeptPairs { pairs: kept, keys })
 }
 
-/// A pair with the keys that may identify it; None where it is not kept.
-fn with_keys(
-    graph: &Graph,
-    patterns: &[Pattern],
-    pair: (u32, u32),
-) -> Option<((u32, u32), KeyRange)>
-    ensures { TellsKeys graph.now patterns.now pair result }
-{
-    let keys = keys_of(graph, patterns, pair)?;
-    Some((pair, keys))
-}
-
-/// The same, where the pairs are cut into pieces, no more than there may be threads, a thread filters each, and what is
-/// kept of each is joined in order. Where a thread can't be started the caller does its work.
-fn keep_in_pieces<R: Threads + Sync>(
-    rt: &R,
-    alloc: Global,
-    threads: u32,
-    graph: &Graph,
-    patterns: &[Pattern],
-    pairs: &[(u32, u32)],
-) -> Result<KeptPairs, AllocError>
-    requires { 0 < threads }
-    ensures kept { IfOk result (λ v. IsSelection (λ x. ArePairedBy graph.now patterns.now 2 x.0 x.1) pairs.now v.pairs.items) }
-    ensures keys { IfOk result (λ v. AllZip (λ x range. AreKeysOf graph.now patterns.now range x.0 x.1) v.pairs.items v.keys.items) }
-{
-    let piece = (pairs.len() / threads as usize).max(FEW / 2);
-    let (pairs, keys) = pairs
-        .par_iter()
-        .copied()
-        .with_min_len(piece)
-        .filter_map(
-            |pair: (u32, u32)| -> Option<((u32, u32), KeyRange)>
-                ensures { TellsKeys graph.entry.now patterns.entry.now pair result }
-            { with_keys(graph, patterns, pair) },
-        )
-        .unzip(rt, alloc)?;
-    Ok(KeptPairs { pairs, keys })
-}
-
-/// The same, on the caller's thread where more may not be used or would not serve.
-fn select<R: Threads + Sync>(
+/// The same. With two threads or more a longer run of pairs is cut in two halves, the threads are shared out among them, and
+/// what is kept of each is joined in order. Where a thread can't be started the caller does its work.
+#[cycle(halves)]
+fn keep_in_threads<R: Threads + Sync>(
     rt: &R,
     alloc: Global,
     threads: u32,
@@ -107,7 +74,22 @@ fn select<R: Threads + Sync>(
     if threads < 2 || pairs.len() < FEW {
         return keep_alone(alloc, graph, patterns, pairs);
     }
-    let kept = keep_in_pieces(rt, alloc, threads, graph, patterns, pairs)?;
+    let (below, above) = pairs.split_at(pairs.len() / 2);
+    let theirs = threads / 2;
+    let ours = threads - theirs;
+    let lower = move || -> Result<KeptPairs, NoMemory>
+        requires { IsSync R.row }
+        ensures { IfOk result (λ v. IsSelection (λ x. ArePairedBy graph.entry.now patterns.entry.now 2 x.0 x.1) below.entry.now v.pairs.items × AllZip (λ x range. AreKeysOf graph.entry.now patterns.entry.now range x.0 x.1) v.pairs.items v.keys.items) }
+    { keep_in_threads(rt, alloc, theirs, graph, patterns, below) };
+    let upper = move || -> Result<KeptPairs, NoMemory>
+        requires { IsSync R.row }
+        ensures { IfOk result (λ v. IsSelection (λ x. ArePairedBy graph.entry.now patterns.entry.now 2 x.0 x.1) above.entry.now v.pairs.items × AllZip (λ x range. AreKeysOf graph.entry.now patterns.entry.now range x.0 x.1) v.pairs.items v.keys.items) }
+    { keep_in_threads(rt, alloc, ours, graph, patterns, above) };
+    let (low, high) = join(rt, lower, upper);
+    let mut kept = low?;
+    let mut rest = high?;
+    kept.pairs.append(&mut rest.pairs)?;
+    kept.keys.append(&mut rest.keys)?;
     Ok(kept)
 }
 
@@ -133,7 +115,7 @@ pub fn keep_with_keys<R: Threads + Sync>(
 {
     // A fact for the proof: able pairs are paired.
     law_paired();
-    let kept = select(rt, alloc, threads, graph, patterns, pairs)?;
+    let kept = keep_in_threads(rt, alloc, threads, graph, patterns, pairs)?;
     Ok(kept)
 }
 

@@ -7,15 +7,17 @@ ghost use Rattle.chase_laws.specs.Pairing.{PairedHere, ArePairedBy};
 ghost use Rattle.chase_laws.specs.Valuation.{FitsSlot};
 ghost use Rattle.paired_search.specs.KeyRange.{IsIdle, IsWithin};
 ghost use Rattle.pair_filter.specs.Keys.{ArePairedUnder, ArePairedAt, AreKeysOf};
+ghost use Rattle.pair_filter.specs.Reaching.{IsReach};
 ghost use Rattle.pair_filter.specs.Telling.{IsRuledOut};
 
 use crate::paired::are_paired_along;
+use crate::reach::Reach;
 use chase_laws::{Pattern, Slot};
 use paired_search::KeyRange;
 use typed_graph::Graph;
 
 /// How many edges away from its two names a pair is looked at.
-const DEPTH: u8 = 2;
+pub(crate) const DEPTH: u8 = 2;
 
 /// Whether two names are entities of a type.
 fn have_type(graph: &Graph, t: u32, a: u32, b: u32) -> bool
@@ -58,14 +60,16 @@ fn are_paired_by(
     is_kept_by(graph, pattern, pair.0, pair.1)
 }
 
-/// The place of the first key that pairs two names.
-fn first_key(graph: &Graph, patterns: &[Pattern], pair: (u32, u32)) -> Option<usize>
+/// The place of the first key that pairs two names. Only keys that the first name is in reach of are asked.
+fn first_key(graph: &Graph, patterns: &[Pattern], reach: &Reach, pair: (u32, u32)) -> Option<usize>
+    requires reach { IsReach graph.now patterns.now reach.now }
+    requires name { reach.now.name ≡ pair.0 }
     ensures paired { IfSome result (λ key. ArePairedAt graph.now patterns.now key pair.0 pair.1) }
     ensures first { IfSome result (λ first. (key : ℕ) (Q : Shape) → key < first → slice_get patterns.now key ≡ Some Q → IsIdle graph.now Q pair.0 pair.1) }
     ensures none { IfNone result (¬ (ArePairedBy graph.now patterns.now 2 pair.0 pair.1)) }
 {
     let mut missing = None;
-    for key in 0..patterns.len() {
+    for key in reach.first..reach.end {
         if are_paired_by(graph, &patterns[key], pair, &mut missing) {
             return Some(key);
         }
@@ -74,15 +78,23 @@ fn first_key(graph: &Graph, patterns: &[Pattern], pair: (u32, u32)) -> Option<us
 }
 
 /// The place behind the last key that pairs two names, where the first is known. It is looked for from the back.
-fn end_key(graph: &Graph, patterns: &[Pattern], pair: (u32, u32), first: usize) -> usize
-    requires { ArePairedAt graph.now patterns.now first pair.0 pair.1 }
+fn end_key(
+    graph: &Graph,
+    patterns: &[Pattern],
+    reach: &Reach,
+    pair: (u32, u32),
+    first: usize,
+) -> usize
+    requires reach { IsReach graph.now patterns.now reach.now }
+    requires name { reach.now.name ≡ pair.0 }
+    requires first { ArePairedAt graph.now patterns.now first pair.0 pair.1 }
     ensures behind { first < result }
     ensures paired { ArePairedAt graph.now patterns.now (result - 1) pair.0 pair.1 }
     ensures last { (key : ℕ) (Q : Shape) → result ≤ key → slice_get patterns.now key ≡ Some Q → IsIdle graph.now Q pair.0 pair.1 }
 {
     let mut missing = None;
     let behind = first + 1;
-    for key in (behind..patterns.len()).rev() {
+    for key in (behind..reach.end).rev() {
         if are_paired_by(graph, &patterns[key], pair, &mut missing) {
             return key + 1;
         }
@@ -104,12 +116,19 @@ fn range_from(first: usize, end: usize) -> KeyRange
 }
 
 /// The keys that may identify two names: a range from the first that pairs them to depth 2 to the last. None where no key
-/// does.
-pub(crate) fn keys_of(graph: &Graph, patterns: &[Pattern], pair: (u32, u32)) -> Option<KeyRange>
+/// does. Only keys that the first name is in reach of are asked.
+pub(crate) fn keys_of(
+    graph: &Graph,
+    patterns: &[Pattern],
+    reach: &Reach,
+    pair: (u32, u32),
+) -> Option<KeyRange>
+    requires reach { IsReach graph.now patterns.now reach.now }
+    requires name { reach.now.name ≡ pair.0 }
     ensures paired { IsSome result ↔ ArePairedBy graph.now patterns.now 2 pair.0 pair.1 }
     ensures keys { IfSome result (λ range. AreKeysOf graph.now patterns.now range pair.0 pair.1) }
 {
-    let first = first_key(graph, patterns, pair)?;
-    let end = end_key(graph, patterns, pair, first);
+    let first = first_key(graph, patterns, reach, pair)?;
+    let end = end_key(graph, patterns, reach, pair, first);
     Some(range_from(first, end))
 }

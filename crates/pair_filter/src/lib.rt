@@ -1,11 +1,13 @@
 //! Rules out candidate pairs without a search. `keep` keeps those that some key pairs to depth 2: the two names are fit for
 //! its first slot, and as far as two of its edges lead, the graph has for each edge rows whose ends can go together. Every
 //! pair that a step can identify is among them. `keep_with_keys` also tells of each which keys may identify it. The pairs
-//! are cut into pieces, each piece is filtered in a thread of its own, and what is kept of each is joined in order; so the
-//! answer is the same whatever the number of threads.
+//! are cut into runs, each run is filtered in a thread of its own, and what is kept of each is joined in order; so the
+//! answer is the same whatever the number of threads. Of a name that is first in many pairs behind one another it is asked
+//! once which keys may pair it with any.
 //!
 //! - `keeping`: which pairs are kept
 //! - `keys`: which keys may identify two names
+//! - `reach`: which keys may pair a name with any other
 //! - `paired`: whether a key pairs two names
 //! - `alone`: whether a key pairs a name with itself, which it does wherever it pairs it with any
 //! - `here`: whether two names can go together at a slot
@@ -18,5 +20,6 @@ mod keeping;
 mod keys;
 mod paired;
 mod parts;
+mod reach;
 
 pub use keeping::{KeptPairs, keep, keep_with_keys};

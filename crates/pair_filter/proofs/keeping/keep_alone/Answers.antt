@@ -6,31 +6,48 @@ use Rattle.paired_search.specs.declared.key_range.KeyRange.{KeyRange}
 use Rattle.pair_filter.specs.Keys.{AreKeysOf}
 use Rattle.pair_filter.proofs.Selections.{selection_push, selection_skip}
 use Rattle.pair_filter.proofs.keeping.keep_alone.Goals as goal
+use Rattle.pair_filter.proofs.keeping.keep_alone.Goals.{then-reach-pair, else-reach-pair}
+
+-- nothing yet
+pub loop-place-init : goal.loop-place-init
+loop-place-init c = record {
+  kept = c.new-kept.ensures.items;
+  keys = rw (c.new-kept.ensures.items, c.new-keys.ensures.items) tt;
+  reach = c.all_keys-reach.ensures.reach c.args.graph.now;
+}
 
 -- a pair that is not kept
-pub loop-pair-preserved-in_default : goal.loop-pair-preserved-in_default
-loop-pair-preserved-in_default c =
+pub loop-place-preserved-in_default : goal.loop-place-preserved-in_default
+loop-place-preserved-in_default c =
     let P : ℕ × ℕ → Type 0 = λ x. ArePairedBy c.args.graph.now c.args.patterns.now 2 x.0 x.1 in
     let xs = c.args.pairs.now in
-    let i = c.loop-pair.pair-index in
+    let i = c.loop-place.place in
     let x = get_or xs i (0, 0) in
     record {
-      kept = rw (take_more xs i (0, 0) c.loop-pair-test.true)
-          (selection_skip P (take i xs) c.loop-pair.kept.items x c.loop-pair.invariant.kept (λ h. true≢false (sym (c.in_default.ensures.paired.1 h))));
-      keys = c.loop-pair.invariant.keys;
+      kept = rw (take_more xs i (0, 0) c.loop-place-test.true)
+          (selection_skip P (take i xs) c.loop-place.kept.items x c.loop-place.invariant.kept (λ h. true≢false (sym (c.in_default.ensures.paired.1 h))));
+      keys = c.loop-place.invariant.keys;
+      reach = elim c.if-reach-pair.branch [
+        | then-reach-pair w ↦ rw w.reach-is w.reach_along-reach.ensures.reach
+        | else-reach-pair w ↦ rw w.reach-is c.loop-place.invariant.reach
+      ];
     }
 
 -- one that is
-pub loop-pair-preserved : goal.loop-pair-preserved
-loop-pair-preserved c =
+pub loop-place-preserved : goal.loop-place-preserved
+loop-place-preserved c =
     let P : ℕ × ℕ → Type 0 = λ x. ArePairedBy c.args.graph.now c.args.patterns.now 2 x.0 x.1 in
     let R : ℕ × ℕ → KeyRange → Type 0 = λ x range. AreKeysOf c.args.graph.now c.args.patterns.now range x.0 x.1 in
     let xs = c.args.pairs.now in
-    let i = c.loop-pair.pair-index in
+    let i = c.loop-place.place in
     let x = get_or xs i (0, 0) in
     record {
-      kept = rw (take_more xs i (0, 0) c.loop-pair-test.true, c.in_ok-push.ensures.items)
-          (selection_push P (take i xs) c.loop-pair.kept.items x c.loop-pair.invariant.kept (c.in-Some.ensures.paired.0 refl));
+      kept = rw (take_more xs i (0, 0) c.loop-place-test.true, c.in_ok-push.ensures.items)
+          (selection_push P (take i xs) c.loop-place.kept.items x c.loop-place.invariant.kept (c.in-Some.ensures.paired.0 refl));
       keys = rw (c.in_ok-push.ensures.items, c.in_ok-push-2.ensures.items)
-          (all_zipped_more R c.loop-pair.kept.items c.loop-pair.keys.items x c.in-Some.range c.loop-pair.invariant.keys c.in-Some.ensures.keys);
+          (all_zipped_more R c.loop-place.kept.items c.loop-place.keys.items x c.in-Some.range c.loop-place.invariant.keys c.in-Some.ensures.keys);
+      reach = elim c.if-reach-pair.branch [
+        | then-reach-pair w ↦ rw w.reach-is w.reach_along-reach.ensures.reach
+        | else-reach-pair w ↦ rw w.reach-is c.loop-place.invariant.reach
+      ];
     }

@@ -1,0 +1,108 @@
+//! Which keys may pair a name with any other. It is asked of the name alone, and so once for a run of pairs in which it is
+//! first.
+
+ghost use Rattle.std.specs.Prelude.{◌≡◌, ◌<◌, ◌≤◌, ℕ, IsFalse, IfSome, IfNone, Some, length, slice_get};
+ghost use Rattle.chase_laws.specs.Graph.{NumberedGraph};
+ghost use Rattle.chase_laws.specs.Shape.{Shape};
+ghost use Rattle.pair_filter.specs.Reaching.{IsReach, PairsWithNone};
+
+use crate::alone::is_alone;
+use crate::keys::DEPTH;
+use chase_laws::Pattern;
+use typed_graph::Graph;
+
+/// In a run of no more pairs than these it costs more than it saves to ask first which keys may pair the first name.
+const RUN: usize = 4;
+
+/// The keys that may pair a name with another: none outside of the places `first..end` does.
+#[derive(Clone, Copy)]
+pub(crate) struct Reach {
+    pub name: u32,
+    pub first: usize,
+    pub end: usize,
+}
+
+/// All keys, for any name: nothing is asked of it.
+pub(crate) fn all_keys(patterns: &[Pattern], name: u32) -> Reach
+    ensures reach { (G : NumberedGraph) → IsReach G patterns.now result }
+    ensures name { result.name ≡ name }
+{
+    Reach {
+        name,
+        first: 0,
+        end: patterns.len(),
+    }
+}
+
+/// Whether a key pairs a name with itself to depth 2. Where it does not, it pairs it with no name.
+fn may_pair(graph: &Graph, pattern: &Pattern, name: u32) -> bool
+    ensures { IsFalse result → PairsWithNone graph.now pattern.now name }
+{
+    // A fact for the proof: slot 0 is an entity variable.
+    let _ = pattern.designated_type();
+    is_alone(graph, pattern, None, DEPTH, 0, name)
+}
+
+/// The place of the first key that may pair a name with another.
+fn first_place(graph: &Graph, patterns: &[Pattern], name: u32) -> Option<usize>
+    ensures within { IfSome result (λ first. first < length patterns.now) }
+    ensures before { IfSome result (λ first. (key : ℕ) (Q : Shape) → key < first → slice_get patterns.now key ≡ Some Q → PairsWithNone graph.now Q name) }
+    ensures none { IfNone result ((key : ℕ) (Q : Shape) → slice_get patterns.now key ≡ Some Q → PairsWithNone graph.now Q name) }
+{
+    for key in 0..patterns.len() {
+        if may_pair(graph, &patterns[key], name) {
+            return Some(key);
+        }
+    }
+    None
+}
+
+/// The place behind the last key that may, where the first is known. It is looked for from the back.
+fn end_place(graph: &Graph, patterns: &[Pattern], name: u32, first: usize) -> usize
+    requires { first < length patterns.now }
+    ensures within { result ≤ length patterns.now }
+    ensures behind { (key : ℕ) (Q : Shape) → result ≤ key → slice_get patterns.now key ≡ Some Q → PairsWithNone graph.now Q name }
+{
+    let behind = first + 1;
+    for key in (behind..patterns.len()).rev() {
+        if may_pair(graph, &patterns[key], name) {
+            return key + 1;
+        }
+    }
+    behind
+}
+
+/// The keys from the first that may pair a name with another to the last; none where no key may.
+fn reach_of(graph: &Graph, patterns: &[Pattern], name: u32) -> Reach
+    ensures reach { IsReach graph.now patterns.now result }
+    ensures name { result.name ≡ name }
+{
+    let Some(first) = first_place(graph, patterns, name) else {
+        return Reach {
+            name,
+            first: 0,
+            end: 0,
+        };
+    };
+    let end = end_place(graph, patterns, name, first);
+    Reach { name, first, end }
+}
+
+/// The same for the name that is first in the first of some pairs, where a long enough run of them has it; else all keys.
+/// That is seen from one pair farther on, as the pairs ascend. Where they do not, it may be guessed wrong, which costs time
+/// alone.
+pub(crate) fn reach_along(
+    graph: &Graph,
+    patterns: &[Pattern],
+    name: u32,
+    pairs: &[(u32, u32)],
+) -> Reach
+    ensures reach { IsReach graph.now patterns.now result }
+    ensures name { result.name ≡ name }
+{
+    if pairs.len() > RUN && pairs[RUN].0 == name {
+        reach_of(graph, patterns, name)
+    } else {
+        all_keys(patterns, name)
+    }
+}
