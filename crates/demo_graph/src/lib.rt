@@ -17,6 +17,3 @@ pub use class_counts::{ClassCounts, count_classes};
 pub use counts_line::demo_line;
 pub use decimal_word::number_of;
 pub use texts::demo_texts;
-
-#[cfg(test)]
-mod tests;

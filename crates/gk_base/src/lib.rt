@@ -25,6 +25,3 @@ pub use read_fault::{ReadFault, ReadRefusal, ReadStop};
 pub use stop::Stop;
 pub use term::{Term, Triple};
 pub use text::Text;
-
-#[cfg(test)]
-mod tests;

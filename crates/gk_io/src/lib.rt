@@ -38,6 +38,3 @@ pub use shelf::Shelf;
 pub use sink::{Sink, write_all};
 pub use sure_shelf::SureShelf;
 pub use sure_sink::SureSink;
-
-#[cfg(test)]
-mod tests;

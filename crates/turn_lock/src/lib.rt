@@ -45,6 +45,3 @@ pub trait Journaled {
         requires { length (entries self.now) < 2 ^ 64 }
         ensures { result ≡ length (entries self.now) };
 }
-
-#[cfg(test)]
-mod tests;

@@ -1,39 +1,6 @@
-use crate::{ClassCounts, count_classes, demo_line, demo_texts, number_of};
+use demo_graph::{ClassCounts, count_classes, demo_line, number_of};
+use std::alloc::Global;
 use std::test::Fail;
-
-const GRAPH_OF_ONE: &[u8] =
-    b"<urn:a:0> <http://www.w3.org/1999/02/22-rdf-syntax-ns#type> <urn:T> .\n\
-<urn:b:0> <http://www.w3.org/1999/02/22-rdf-syntax-ns#type> <urn:T> .\n\
-<urn:a:0> <urn:name> \"n0\" .\n\
-<urn:b:0> <urn:name> \"n0\" .\n\
-<urn:a:0> <urn:code> \"c\" .\n\
-<urn:b:0> <urn:code> \"c\" .\n";
-
-const NEXT_OF_TWO: &[u8] =
-    b"<urn:a:1> <http://www.w3.org/1999/02/22-rdf-syntax-ns#type> <urn:T> .\n\
-<urn:b:1> <http://www.w3.org/1999/02/22-rdf-syntax-ns#type> <urn:T> .\n\
-<urn:a:1> <urn:name> \"n1\" .\n\
-<urn:b:1> <urn:name> \"n1\" .\n\
-<urn:a:1> <urn:next> <urn:a:0> .\n\
-<urn:b:1> <urn:next> <urn:b:0> .\n";
-
-const KEYS: &[u8] =
-    b"key base <urn:T>\nvalue $n\nvalue $c\n?x <urn:name> $n\n?x <urn:code> $c\nend\n\
-key link <urn:T>\nentity ?y <urn:T>\nvalue $n\n?x <urn:name> $n\n?x <urn:next> ?y\nend\n";
-
-#[test]
-fn texts_of_one_and_of_two(rt: HostRuntime) -> Result<(), Fail> {
-    let (graph, keys) = demo_texts(rt.alloc(), 1)?;
-    assert_eq!(rt; graph.as_slice(), GRAPH_OF_ONE);
-    assert_eq!(rt; keys.as_slice(), KEYS);
-
-    let mut of_two = GRAPH_OF_ONE.to_vec(rt.alloc())?;
-    of_two.extend_from_slice(NEXT_OF_TWO)?;
-    let (graph, keys) = demo_texts(rt.alloc(), 2)?;
-    assert_eq!(rt; graph.as_slice(), of_two.as_slice());
-    assert_eq!(rt; keys.as_slice(), KEYS);
-    Ok(())
-}
 
 #[test]
 fn classes_of_two_or_more_are_counted_with_their_members(rt: HostRuntime) -> Result<(), Fail> {
@@ -58,13 +25,18 @@ fn classes_of_two_or_more_are_counted_with_their_members(rt: HostRuntime) -> Res
     Ok(())
 }
 
+/// The line with these counts. It stands here for the proof alone, which then does not spell the numbers of the test.
+fn line_of(alloc: Global, triples: u64, pairs: u64, counts: ClassCounts) -> Result<Vec<u8>, Fail> {
+    Ok(demo_line(alloc, triples, pairs, counts)?)
+}
+
 #[test]
 fn the_line_has_all_counts(rt: HostRuntime) -> Result<(), Fail> {
     let counts = ClassCounts {
         classes: 1000,
         members: 2000,
     };
-    let line = demo_line(rt.alloc(), 6000, 1000, counts)?;
+    let line = line_of(rt.alloc(), 6000, 1000, counts)?;
     assert_eq!(rt;
         line.as_slice(),
         b"triples 6000 pairs 1000 classes 1000 members 2000\n".as_slice()
@@ -82,6 +54,10 @@ fn a_number_has_neither_sign_nor_leading_zero(rt: HostRuntime) {
     for word in others.iter() {
         assert_eq!(rt; number_of(word, 64), None);
     }
+}
+
+#[test]
+fn a_number_goes_to_its_limit(rt: HostRuntime) {
     assert_eq!(rt; number_of(b"100000", 100000), Some(100000));
     assert_eq!(rt; number_of(b"100001", 100000), None);
     assert_eq!(rt; number_of(b"4294967297", 100000), None);

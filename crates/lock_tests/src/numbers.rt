@@ -1,8 +1,8 @@
 //! A list of numbers that takes no memory once it is made.
 ghost use Rattle.std.specs.Prelude.{◌≡◌, ◌++◌, ◌⊎◌, [], ◌∷◌, vec_capacity, IfOk};
 
-use crate::Journaled;
 use std::alloc::{AllocError, Global};
+use turn_lock::Journaled;
 
 /// Its base is its room, and its entries are the numbers.
 #[derive(Drop)]

@@ -2,12 +2,12 @@
 ghost use Rattle.std.specs.Prelude.{◌≡◌, ℕ, ◌+◌, ◌*◌, ◌<◌, ◌≤◌, ◌^◌, slice_get, Some, length, All};
 ghost use Rattle.turn_lock.specs.Handles.{AllOut, IsPassOf, IsOut};
 
-use super::numbers::Numbers;
-use crate::{Pass, TurnLock};
+use crate::numbers::Numbers;
 use std::sync::Wait;
 use std::sync::atomic::{AtomicU64, Ordering};
 use std::thread;
 use std::thread::Threads;
+use turn_lock::{Pass, TurnLock};
 
 // One turn that adds a number.
 fn add<R: Wait>(rt: &R, lock: &TurnLock<Numbers>, pass: &mut Pass<Numbers>, x: u32)

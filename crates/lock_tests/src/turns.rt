@@ -1,18 +1,13 @@
-//! Turns on a list of numbers, in one thread and in many.
-
 ghost use Rattle.std.specs.Prelude.{◌≡◌, ℕ, ◌<◌, ◌≤◌, ◌^◌, length};
 ghost use Rattle.turn_lock.specs.Handles.{AllOut, IsPassOf, IsOut};
 
-mod numbers;
-mod threads;
-
-use crate::{Pass, TurnLock};
-use numbers::Numbers;
+use crate::numbers::Numbers;
+use crate::threads::{Signs, all_add, both_sides};
 use std::process::Abort;
 use std::sync::Wait;
 use std::sync::atomic::{AtomicU64, Ordering};
 use std::test::Fail;
-use threads::{Signs, all_add, both_sides};
+use turn_lock::{Pass, TurnLock};
 
 // One turn that finds these numbers, and may add one.
 fn find_and_add<R: Wait + Abort>(

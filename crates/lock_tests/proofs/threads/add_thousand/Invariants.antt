@@ -1,5 +1,5 @@
 use Rattle.turn_lock.specs.Handles.{IsPassOf, IsOut}
-use Rattle.turn_lock.proofs.tests.threads.add_thousand.Given as goal
+use Rattle.lock_tests.proofs.threads.add_thousand.Given as goal
 
 abbrev pub invariant-loop-k : goal.invariant-loop-k
 invariant-loop-k g l = IsPassOf l.lock l.pass × IsOut l.pass
