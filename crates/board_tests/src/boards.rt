@@ -35,25 +35,75 @@ fn expect_labels(
     }
 }
 
-#[test]
-fn labels_follow_the_posts(rt: HostRuntime) -> Result<(), Fail> {
-    let alloc = rt.alloc();
-    let mut book = Book::new(alloc, 4, 3)?;
-    let mut view = View::new(alloc, 4)?;
-    let (board, mut scribe, mut watchers) = Board::new(alloc, &book, 4, 2)?;
+// The tests below are in parts, each of which is proved by itself: a proof grows much faster than the function.
+
+/// Two entries are posted. After the first one watcher fills the view, and after the second another.
+fn post_two(
+    rt: &impl Abort,
+    board: &Board,
+    scribe: &mut Scribe,
+    book: &mut Book,
+    first: &mut Watcher,
+    second: &mut Watcher,
+    view: &mut View,
+)
+    requires scribe { (scribe.old.board ≡ board.now.id) × (scribe.old.posted ≡ book.old.journal) × (scribe.old.shown ≡ book.old.labels) }
+    requires book { (length book.old.labels ≡ 4) × (book.old.journal ≡ []) × (book.old.room ≡ 3) }
+    requires board { board.now.names ≡ 4 }
+    requires watchers { (first.old.board ≡ board.now.id) × (second.old.board ≡ board.now.id) }
+    requires room { view.old.room ≡ 4 }
+    ensures scribe { scribe.new.board ≡ scribe.old.board }
+    ensures book { length book.new.labels ≡ 4 }
+    ensures watchers { (first.new.board ≡ first.old.board) × (second.new.board ≡ second.old.board) }
+    ensures room { view.new.room ≡ 4 }
+{
+    enter(rt, book, board, scribe, 0, 1);
+    expect_labels(rt, board, first, view, [0, 0, 2]);
+    enter(rt, book, board, scribe, 1, 2);
+    expect_labels(rt, board, second, view, [0, 0, 0]);
+}
+
+/// A board that is made of a book later shows the labels that the book has then.
+fn expect_labels_later(
+    rt: &impl Abort,
+    alloc: Global,
+    book: &Book,
+    view: &mut View,
+) -> Result<(), NoMemory>
+    requires book { length book.now.labels ≡ 4 }
+    requires room { view.old.room ≡ 4 }
+{
+    let (later, _, mut watchers) = Board::new(alloc, book, 4, 1)?;
+    let mut third = watchers.pop().unwrap();
+    expect_labels(rt, &later, &mut third, view, [0, 0, 0]);
+    Ok(())
+}
+
+/// Two watchers of a board over the book follow two posts, and meet the scribe. A board that is made later stands beside it.
+fn follow_two_posts(
+    rt: &impl Abort,
+    alloc: Global,
+    book: &mut Book,
+    view: &mut View,
+) -> Result<(), NoMemory>
+    requires book { (length book.old.labels ≡ 4) × (book.old.journal ≡ []) × (book.old.room ≡ 3) }
+    requires room { view.old.room ≡ 4 }
+{
+    let (board, mut scribe, mut watchers) = Board::new(alloc, book, 4, 2)?;
     assert_eq!(rt; board.names(), 4);
     let mut second = watchers.pop().unwrap();
     let mut first = watchers.pop().unwrap();
-    enter(&rt, &mut book, &board, &mut scribe, 0, 1);
-    expect_labels(&rt, &board, &mut first, &mut view, [0, 0, 2]);
-    enter(&rt, &mut book, &board, &mut scribe, 1, 2);
-    expect_labels(&rt, &board, &mut second, &mut view, [0, 0, 0]);
+    post_two(rt, &board, &mut scribe, book, &mut first, &mut second, view);
     board.meet(&mut first, &mut scribe);
     board.meet(&mut second, &mut scribe);
+    expect_labels_later(rt, alloc, book, view)
+}
 
-    let (later, _, mut later_watchers) = Board::new(alloc, &book, 4, 1)?;
-    let mut third = later_watchers.pop().unwrap();
-    expect_labels(&rt, &later, &mut third, &mut view, [0, 0, 0]);
+#[test]
+fn labels_follow_the_posts(rt: HostRuntime) -> Result<(), Fail> {
+    let mut book = Book::new(rt.alloc(), 4, 3)?;
+    let mut view = View::new(rt.alloc(), 4)?;
+    follow_two_posts(&rt, rt.alloc(), &mut book, &mut view)?;
     Ok(())
 }
 
@@ -132,25 +182,52 @@ fn post_and_fill<R: Threads>(
     risen
 }
 
-#[test]
-fn labels_fall_while_others_post(rt: HostRuntime) -> Result<(), Fail> {
-    let alloc = rt.alloc();
-    let mut book = Book::new(alloc, 1000, 999)?;
-    let mut view = View::new(alloc, 1000)?;
-    let (board, mut scribe, mut watchers) = Board::new(alloc, &book, 1000, 1)?;
-    let mut watcher = watchers.pop().unwrap();
+/// One thread posts, and another fills a view of all names meanwhile, with each name as its last label at first.
+fn count_risen_meanwhile<R: Threads>(
+    rt: &R,
+    alloc: Global,
+    board: &Board,
+    scribe: &mut Scribe,
+    book: &mut Book,
+    watcher: &mut Watcher,
+) -> Result<u32, NoMemory>
+    requires scribe { (scribe.old.board ≡ board.now.id) × (scribe.old.posted ≡ book.old.journal) }
+    requires book { (length book.old.labels ≡ board.now.names) × (book.old.journal ≡ []) × (book.old.room ≡ 999) }
+    requires board { board.now.names ≡ 1000 }
+    requires watcher { watcher.old.board ≡ board.now.id }
+{
     let names = numbers(alloc, 1000)?;
+    let mut view = View::new(alloc, 1000)?;
     let mut last = numbers(alloc, 1000)?;
-    let risen = post_and_fill(
-        &rt,
-        &board,
-        &mut scribe,
-        &mut book,
-        &mut watcher,
+    Ok(post_and_fill(
+        rt,
+        board,
+        scribe,
+        book,
+        watcher,
         names.as_slice(),
         &mut view,
         last.as_mut_slice(),
-    );
+    ))
+}
+
+/// The same on a board over the book, for its only watcher.
+fn count_risen_on_a_board<R: Threads>(
+    rt: &R,
+    alloc: Global,
+    book: &mut Book,
+) -> Result<u32, NoMemory>
+    requires book { (length book.old.labels ≡ 1000) × (book.old.journal ≡ []) × (book.old.room ≡ 999) }
+{
+    let (board, mut scribe, mut watchers) = Board::new(alloc, book, 1000, 1)?;
+    let mut watcher = watchers.pop().unwrap();
+    count_risen_meanwhile(rt, alloc, &board, &mut scribe, book, &mut watcher)
+}
+
+#[test]
+fn labels_fall_while_others_post(rt: HostRuntime) -> Result<(), Fail> {
+    let mut book = Book::new(rt.alloc(), 1000, 999)?;
+    let risen = count_risen_on_a_board(&rt, rt.alloc(), &mut book)?;
     assert_eq!(rt; risen, 0);
     assert_eq!(rt; book.journal().len(), 999);
     Ok(())
@@ -247,28 +324,66 @@ fn post_and_read<R: Threads + Abort>(
     }
 }
 
-#[test]
-fn what_is_read_after_a_renew_is_shown(rt: HostRuntime) -> Result<(), Fail> {
-    let alloc = rt.alloc();
-    let mut book = Book::new(alloc, 10, 9)?;
+/// Before any post a watcher sees none, and reads the labels of the book.
+fn expect_nothing_posted<R: Threads + Abort>(
+    rt: &R,
+    board: &Board,
+    book: &Book,
+    watcher: &mut Watcher,
+    names: &[u32],
+    view: &mut View,
+)
+    requires book { length book.now.labels ≡ 10 }
+    requires watcher { watcher.old.board ≡ board.now.id }
+    requires names { IsStrictlyIncreasing names.now × All (λ n. n < board.now.names) names.now }
+    requires room { length names.now ≤ view.old.room }
+    ensures watcher { watcher.new.board ≡ board.now.id }
+    ensures room { view.new.room ≡ view.old.room }
+{
+    let posted = look_and_fill(rt, board, watcher, names, view);
+    assert_eq!(rt; posted, 0);
+    assert_eq!(rt; count_stale(book, 10, view), 0);
+}
+
+/// A watcher reads all names, first before any post, and then after each.
+fn read_before_and_after<R: Threads + Abort>(
+    rt: &R,
+    alloc: Global,
+    board: &Board,
+    scribe: &mut Scribe,
+    book: &mut Book,
+    watcher: &mut Watcher,
+) -> Result<(), NoMemory>
+    requires scribe { (scribe.old.board ≡ board.now.id) × (scribe.old.posted ≡ book.old.journal) × (scribe.old.shown ≡ book.old.labels) }
+    requires book { (length book.old.labels ≡ board.now.names) × (book.old.journal ≡ []) × (book.old.room ≡ 9) }
+    requires board { board.now.names ≡ 10 }
+    requires watcher { watcher.old.board ≡ board.now.id }
+{
     let mut view = View::new(alloc, 10)?;
-    let (board, mut scribe, mut watchers) = Board::new(alloc, &book, 10, 1)?;
-    let mut watcher = watchers.pop().unwrap();
     let names = numbers(alloc, 10)?;
     let names = names.as_slice();
-    let posted = look_and_fill(&rt, &board, &mut watcher, names, &mut view);
-    assert_eq!(rt; posted, 0);
-    assert_eq!(rt; count_stale(&book, 10, &view), 0);
-    post_and_read(
-        &rt,
-        &board,
-        &mut scribe,
-        &mut book,
-        &mut watcher,
-        names,
-        &mut view,
-        9,
-    );
+    expect_nothing_posted(rt, board, book, watcher, names, &mut view);
+    post_and_read(rt, board, scribe, book, watcher, names, &mut view, 9);
+    Ok(())
+}
+
+/// The same on a board over the book, for its only watcher.
+fn read_on_a_board<R: Threads + Abort>(
+    rt: &R,
+    alloc: Global,
+    book: &mut Book,
+) -> Result<(), NoMemory>
+    requires book { (length book.old.labels ≡ 10) × (book.old.journal ≡ []) × (book.old.room ≡ 9) }
+{
+    let (board, mut scribe, mut watchers) = Board::new(alloc, book, 10, 1)?;
+    let mut watcher = watchers.pop().unwrap();
+    read_before_and_after(rt, alloc, &board, &mut scribe, book, &mut watcher)
+}
+
+#[test]
+fn what_is_read_after_a_renew_is_shown(rt: HostRuntime) -> Result<(), Fail> {
+    let mut book = Book::new(rt.alloc(), 10, 9)?;
+    read_on_a_board(&rt, rt.alloc(), &mut book)?;
     assert_eq!(rt; book.journal().len(), 9);
     Ok(())
 }

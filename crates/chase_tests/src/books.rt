@@ -58,16 +58,27 @@ fn enter_each(rt: &impl Abort, book: &mut Book, steps: &[((u32, u32), u32, [u32;
     }
 }
 
+/// A book of four nodes, each alone, with room for three identifications.
+fn four_alone(rt: &impl Abort, alloc: Global) -> Book
+    ensures count { length result.labels ≡ 4 }
+    ensures room { result.room ≡ 3 }
+{
+    Book::new(alloc, 4, 3).expect(rt, ENOUGH)
+}
+
 #[test]
 fn the_larger_class_keeps_its_label(rt: HostRuntime) {
-    let alloc = rt.alloc();
-    let mut grown = Book::new(alloc, 4, 3).expect(&rt, ENOUGH);
+    let mut grown = four_alone(&rt, rt.alloc());
     let steps = [((0, 1), 0, [0, 0, 2, 3]), ((1, 2), 1, [0, 0, 0, 3])];
     enter_each(&rt, &mut grown, &steps);
     assert_eq!(rt; grown.size(2), 3);
     assert!(rt; !grown.same(0, 3));
+}
 
-    let mut tied = Book::new(alloc, 4, 3).expect(&rt, ENOUGH);
+#[test]
+fn at_a_tie_the_smaller_label_stays(rt: HostRuntime) {
+    let alloc = rt.alloc();
+    let mut tied = four_alone(&rt, alloc);
     let steps = [
         ((0, 1), 0, [0, 0, 2, 3]),
         ((2, 3), 1, [0, 0, 2, 2]),
@@ -79,8 +90,11 @@ fn the_larger_class_keeps_its_label(rt: HostRuntime) {
         members_of(alloc, &tied, 3).expect(&rt, ENOUGH).as_slice(),
         [0, 1, 2, 3].as_slice()
     );
+}
 
-    let mut later = Book::new(alloc, 4, 3).expect(&rt, ENOUGH);
+#[test]
+fn the_larger_class_keeps_a_larger_label(rt: HostRuntime) {
+    let mut later = four_alone(&rt, rt.alloc());
     let steps = [((2, 3), 0, [0, 1, 2, 2]), ((0, 3), 1, [2, 1, 2, 2])];
     enter_each(&rt, &mut later, &steps);
     let (labels, journal) = later.into_parts();

@@ -3,10 +3,10 @@
 ghost use Rattle.std.specs.Prelude.{◌<◌, ◌≤◌};
 
 use crate::ENOUGH;
-use crate::wholes::are_labels;
+use crate::wholes::{are_labels, graph_and_keys};
 use chase_core::{Chase, Matched, Setup, Woken};
 use chase_laws::Slot;
-use fixtures::{GraphTable, PatternTable, patterns_of};
+use fixtures::{GraphTable, PatternTable};
 use match_run::{classes, prepare};
 use pair_filter::keep_with_keys;
 use pair_seed::seed;
@@ -149,16 +149,14 @@ fn matched(rt: &impl Abort, alloc: Global, setup: &Setup) -> Matched {
 
 /// The setup over all candidate pairs, for which all keys are searched.
 fn whole(rt: &impl Abort, alloc: Global) -> Setup {
-    let graph = table().build(alloc).expect(rt, "a graph");
-    let patterns = patterns_of(alloc, keys()).expect(rt, "patterns");
+    let (graph, patterns) = graph_and_keys(rt, alloc, &table(), keys());
     let pairs = seed(alloc, &graph, &patterns, 100).expect(rt, "pairs");
     Setup::new(alloc, graph, patterns, pairs).expect(rt, ENOUGH)
 }
 
 /// The setup over the pairs that are kept, for which the keys of their ranges are.
 fn narrowed<R: Threads + Sync + Abort>(rt: &R, alloc: Global) -> Setup {
-    let graph = table().build(alloc).expect(rt, "a graph");
-    let patterns = patterns_of(alloc, keys()).expect(rt, "patterns");
+    let (graph, patterns) = graph_and_keys(rt, alloc, &table(), keys());
     prepare(rt, alloc, 1, graph, patterns, 100)
         .expect(rt, "pairs")
         .setup
@@ -168,16 +166,14 @@ fn narrowed<R: Threads + Sync + Abort>(rt: &R, alloc: Global) -> Setup {
 fn labels<R: Threads + Wait + Sync + Abort>(rt: &R, alloc: Global, workers: u32) -> Vec<u32>
     requires { (0 < workers) × (workers ≤ 64) }
 {
-    let graph = table().build(alloc).expect(rt, "a graph");
-    let patterns = patterns_of(alloc, keys()).expect(rt, "patterns");
+    let (graph, patterns) = graph_and_keys(rt, alloc, &table(), keys());
     classes(rt, alloc, graph, patterns, 100, workers, &OpenGate).expect(rt, "classes")
 }
 
 #[test]
 fn ranges_go_from_the_first_key_that_pairs_to_the_last(rt: HostRuntime) {
     let alloc = rt.alloc();
-    let graph = table().build(alloc).expect(&rt, "a graph");
-    let patterns = patterns_of(alloc, keys()).expect(&rt, "patterns");
+    let (graph, patterns) = graph_and_keys(&rt, alloc, &table(), keys());
     let pairs = seed(alloc, &graph, &patterns, 100).expect(&rt, "pairs");
     assert_eq!(rt; pairs.len(), 66);
     let kept = keep_with_keys(&rt, alloc, 1, &graph, &patterns, &pairs).expect(&rt, ENOUGH);
@@ -200,8 +196,7 @@ fn many(rt: &impl Abort, alloc: Global) -> Vec<(u32, u32)> {
 #[test]
 fn ranges_stay_beside_their_pairs_whatever_the_threads(rt: HostRuntime) {
     let alloc = rt.alloc();
-    let graph = table().build(alloc).expect(&rt, "a graph");
-    let patterns = patterns_of(alloc, keys()).expect(&rt, "patterns");
+    let (graph, patterns) = graph_and_keys(&rt, alloc, &table(), keys());
     let pairs = many(&rt, alloc);
     for threads in [0, 1, 2, 3, 8] {
         let kept = keep_with_keys(&rt, alloc, threads, &graph, &patterns, &pairs).expect(
@@ -213,11 +208,16 @@ fn ranges_stay_beside_their_pairs_whatever_the_threads(rt: HostRuntime) {
 }
 
 #[test]
-fn a_chase_comes_to_the_same_by_all_keys_and_by_the_ranges(rt: HostRuntime) {
+fn a_chase_by_all_keys_finds_the_pairs(rt: HostRuntime) {
     let alloc = rt.alloc();
     let all = matched(&rt, alloc, &whole(&rt, alloc));
     assert!(rt; are_found(&all));
     assert!(rt; are_labels(&all.labels, wanted()));
+}
+
+#[test]
+fn a_chase_by_the_ranges_comes_to_the_same(rt: HostRuntime) {
+    let alloc = rt.alloc();
     let setup = narrowed(&rt, alloc);
     assert_eq!(rt; setup.pairs().len(), PAIRS.len());
     let some = matched(&rt, alloc, &setup);

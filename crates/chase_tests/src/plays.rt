@@ -35,17 +35,38 @@ pub(crate) fn setup_of(rt: &impl Abort, alloc: Global, table: &GraphTable<'_>) -
 }
 
 #[test]
-fn a_setup_answers_its_looks(rt: HostRuntime) {
+fn a_setup_has_its_pairs_and_their_width(rt: HostRuntime) {
     let setup = setup_of(&rt, rt.alloc(), &two_pairs());
     assert_eq!(rt; setup.pairs(), [(0, 3), (8, 9)].as_slice());
     assert_eq!(rt; setup.widest(), 4);
+}
+
+#[test]
+fn a_setup_has_a_plan_for_each_key(rt: HostRuntime) {
+    let setup = setup_of(&rt, rt.alloc(), &two_pairs());
     assert_eq!(rt; setup.patterns().len(), 2);
     assert_eq!(rt; setup.plans().len(), 2);
+}
+
+#[test]
+fn a_setup_tells_what_is_near(rt: HostRuntime) {
+    let setup = setup_of(&rt, rt.alloc(), &two_pairs());
     assert!(rt; setup.graph().names() == 12 && setup.near().names() == 12);
     assert_eq!(rt; setup.near().owners(3), [3, 9].as_slice());
-    assert_eq!(rt; setup.pairs_of(3), [0].as_slice());
-    assert_eq!(rt; setup.pairs_of(8), [1].as_slice());
-    assert_eq!(rt; setup.pairs_of(5), [].as_slice());
+}
+
+/// Asserts which pairs have a name as an end.
+fn assert_pairs_of(rt: &impl Abort, setup: &Setup, name: u32, wanted: &[u32]) {
+    assert!(rt; name < setup.graph().names());
+    assert_eq!(rt; setup.pairs_of(name), wanted, "name {name}");
+}
+
+#[test]
+fn a_setup_tells_the_pairs_of_a_name(rt: HostRuntime) {
+    let setup = setup_of(&rt, rt.alloc(), &two_pairs());
+    assert_pairs_of(&rt, &setup, 3, &[0]);
+    assert_pairs_of(&rt, &setup, 8, &[1]);
+    assert_pairs_of(&rt, &setup, 5, &[]);
 }
 
 /// Steps with a chase, and what it has to come to.
@@ -69,8 +90,13 @@ fn is_matched(matched: &Matched, play: &Play) -> bool {
     right
 }
 
-/// Plays the steps on a new chase and finishes it.
-pub(crate) fn plays(rt: &impl Abort, alloc: Global, setup: &Setup, steps: &Play) {
+/// Plays the steps on a new chase.
+fn played<'a>(
+    rt: &impl Abort,
+    alloc: Global,
+    setup: &'a Setup,
+    steps: &Play,
+) -> (Chase<'a>, Woken) {
     let mut chase = Chase::new(alloc, setup).expect(rt, ENOUGH);
     let mut left = Hand::new(alloc, setup).expect(rt, ENOUGH);
     let mut right = Hand::new(alloc, setup).expect(rt, ENOUGH);
@@ -83,23 +109,18 @@ pub(crate) fn plays(rt: &impl Abort, alloc: Global, setup: &Setup, steps: &Play)
         &mut woken,
         steps.steps,
     );
+    (chase, woken)
+}
+
+/// Plays the steps on a new chase and finishes it.
+pub(crate) fn plays(rt: &impl Abort, alloc: Global, setup: &Setup, steps: &Play) {
+    let (chase, _) = played(rt, alloc, setup, steps);
     assert!(rt; is_matched(&chase.finish(), steps));
 }
 
 /// Plays the steps on a new chase, calls all pairs back, drains the chase and finishes it.
 fn drains(rt: &impl Abort, alloc: Global, setup: &Setup, steps: &Play) {
-    let mut chase = Chase::new(alloc, setup).expect(rt, ENOUGH);
-    let mut left = Hand::new(alloc, setup).expect(rt, ENOUGH);
-    let mut right = Hand::new(alloc, setup).expect(rt, ENOUGH);
-    let mut woken = Woken::new(alloc, steps.room).expect(rt, ENOUGH);
-    play(
-        rt,
-        &mut chase,
-        &mut left,
-        &mut right,
-        &mut woken,
-        steps.steps,
-    );
+    let (mut chase, mut woken) = played(rt, alloc, setup, steps);
     chase.recall();
     chase.drain(&mut woken);
     assert!(rt; is_matched(&chase.finish(), steps));

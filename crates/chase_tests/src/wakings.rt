@@ -266,20 +266,27 @@ fn at_a_large_class() -> &'static Play {
 }
 
 #[test]
-fn each_entry_wakes_the_pairs_whose_ends_it_brings_together(rt: HostRuntime) {
+fn each_entry_wakes_the_pair_that_leads_to_it(rt: HostRuntime) {
     let alloc = rt.alloc();
     plays(&rt, alloc, &setup_of(&rt, alloc, &chain()), along_a_chain());
+}
+
+#[test]
+fn an_entry_wakes_all_pairs_that_lead_to_it(rt: HostRuntime) {
+    let alloc = rt.alloc();
     plays(&rt, alloc, &setup_of(&rt, alloc, &star()), centre_last());
-    plays(
-        &rt,
-        alloc,
-        &setup_of(&rt, alloc, &third_class()),
-        by_a_third(),
-    );
-    plays(
-        &rt,
-        alloc,
-        &setup_of(&rt, alloc, &large_class()),
-        at_a_large_class(),
-    );
+}
+
+#[test]
+fn an_entry_wakes_the_pairs_whose_ends_it_brings_together(rt: HostRuntime) {
+    let alloc = rt.alloc();
+    let setup = setup_of(&rt, alloc, &third_class());
+    plays(&rt, alloc, &setup, by_a_third());
+}
+
+#[test]
+fn an_entry_of_a_large_class_wakes_those_that_look_at_it_from_each_end(rt: HostRuntime) {
+    let alloc = rt.alloc();
+    let setup = setup_of(&rt, alloc, &large_class());
+    plays(&rt, alloc, &setup, at_a_large_class());
 }

@@ -1,16 +1,20 @@
 //! Whole matches.
 
+ghost use Rattle.std.specs.Prelude.{◌<◌, ◌^◌, length};
+
 use crate::ENOUGH;
+use chase_laws::Pattern;
 use fixtures::worked_graphs::{albums, two_pairs};
 use fixtures::worked_patterns::{ALBUM_BY, ARTIST, NAME_AND_CODE, NAME_AND_NEXT};
 use fixtures::{GraphTable, PatternTable, patterns_of};
-use match_run::{classes, prepare};
+use match_run::{Prepared, classes, prepare};
 use pair_seed::{SeedStop, TooManyPairs};
 use std::alloc::Global;
 use std::process::Abort;
 use std::sync::Wait;
 use std::thread::Threads;
 use steal_pool::OpenGate;
+use typed_graph::Graph;
 
 /// Whether labels are equal exactly where these numbers are.
 pub(crate) fn are_labels(labels: &[u32], wanted: &[u32]) -> bool {
@@ -27,6 +31,20 @@ pub(crate) fn are_labels(labels: &[u32], wanted: &[u32]) -> bool {
     true
 }
 
+/// A graph and patterns from tables.
+pub(crate) fn graph_and_keys(
+    rt: &impl Abort,
+    alloc: Global,
+    table: &GraphTable<'_>,
+    keys: &[PatternTable<'_>],
+) -> (Graph, Vec<Pattern>)
+    ensures { length result.1.items < 2 ^ 32 }
+{
+    let graph = table.build(alloc).expect(rt, "a graph");
+    let patterns = patterns_of(alloc, keys).expect(rt, "patterns");
+    (graph, patterns)
+}
+
 /// Whether the classes of a graph by a case's keys are those of the case, as one worker and as two find them.
 fn has_classes<R: Threads + Wait + Sync + Abort>(
     rt: &R,
@@ -37,8 +55,7 @@ fn has_classes<R: Threads + Wait + Sync + Abort>(
     let limit = u64::from(case.limit);
     let mut right = true;
     for workers in 1..3u32 {
-        let graph = table.build(alloc).expect(rt, "a graph");
-        let keys = patterns_of(alloc, case.keys).expect(rt, "patterns");
+        let (graph, keys) = graph_and_keys(rt, alloc, table, case.keys);
         let labels = classes(rt, alloc, graph, keys, limit, workers, &OpenGate).expect(
             rt, "classes",
         );
@@ -49,8 +66,7 @@ fn has_classes<R: Threads + Wait + Sync + Abort>(
 
 /// How many candidate pairs the albums have by all keys, or how many are told where there are too many.
 fn seeded<R: Threads + Sync + Abort>(rt: &R, alloc: Global, limit: u32) -> Result<u64, u64> {
-    let graph = albums().build(alloc).expect(rt, "a graph");
-    let keys = patterns_of(alloc, together().keys).expect(rt, "patterns");
+    let (graph, keys) = graph_and_keys(rt, alloc, &albums(), together().keys);
     match prepare(rt, alloc, 1, graph, keys, u64::from(limit)) {
         Ok(prepared) => Ok(prepared.seeded),
         Err(SeedStop::Fault(TooManyPairs { found })) => Err(found),
@@ -111,10 +127,14 @@ fn by_no_key() -> &'static Case {
 }
 
 #[test]
-fn keys_support_one_another_in_any_order_of_rows(rt: HostRuntime) {
+fn keys_support_one_another(rt: HostRuntime) {
+    assert!(rt; has_classes(&rt, rt.alloc(), &albums(), together()));
+}
+
+#[test]
+fn keys_support_one_another_in_another_order_of_rows(rt: HostRuntime) {
     let alloc = rt.alloc();
     let table = albums();
-    assert!(rt; has_classes(&rt, alloc, &table, together()));
     let mut rows = table.rows.to_vec(alloc).expect(&rt, ENOUGH);
     rows.reverse();
     let reversed = GraphTable {
@@ -139,11 +159,15 @@ fn next() -> &'static [PatternTable<'static>] {
     &NEXT
 }
 
+/// The two pairs, prepared for a chase by that key.
+fn prepared_by_next<R: Threads + Sync + Abort>(rt: &R, alloc: Global) -> Prepared {
+    let (graph, keys) = graph_and_keys(rt, alloc, &two_pairs(), next());
+    prepare(rt, alloc, 1, graph, keys, 2).expect(rt, "pairs")
+}
+
 #[test]
 fn the_filter_comes_after_the_count(rt: HostRuntime) {
-    let graph = two_pairs().build(rt.alloc()).expect(&rt, "a graph");
-    let keys = patterns_of(rt.alloc(), next()).expect(&rt, "patterns");
-    let prepared = prepare(&rt, rt.alloc(), 1, graph, keys, 2).expect(&rt, "pairs");
+    let prepared = prepared_by_next(&rt, rt.alloc());
     assert_eq!(rt; prepared.seeded, 2);
     assert_eq!(rt; prepared.setup.pairs(), [(8, 9)].as_slice());
 }
@@ -156,5 +180,9 @@ fn pairs_that_only_support_each_other_stay_apart(rt: HostRuntime) {
 #[test]
 fn one_key_finds_its_own_pair(rt: HostRuntime) {
     assert!(rt; has_classes(&rt, rt.alloc(), &albums(), by_year()));
+}
+
+#[test]
+fn no_key_finds_no_pair(rt: HostRuntime) {
     assert!(rt; has_classes(&rt, rt.alloc(), &albums(), by_no_key()));
 }

@@ -64,13 +64,11 @@ fn grow() -> Case<'static> {
 }
 
 /// A growth that is refused.
-fn refused() -> Case<'static> {
-    Case {
-        status: 2,
-        out: "",
-        ..grow()
-    }
-}
+const REFUSED: Case<'static> = Case {
+    status: 2,
+    out: "",
+    ..GROW
+};
 
 /// Graphs, what is added to them, keys, and the report.
 static GROWN: [(&[u8], &[u8], &[u8], &str); 6] = [
@@ -124,83 +122,105 @@ fn graphs_grow_the_same_with_any_workers(rt: HostRuntime) {
     }
 }
 
-#[test]
-fn added_graphs_are_refused_after_the_graph_and_before_keys(rt: HostRuntime) {
-    let bad_more = Case {
-        more: b"<urn:a> <urn:p> \"x\" .\n<a> <urn:p> \"x\" .\n",
-        keys: b"end\n",
-        err: "more:2: relative IRI\n",
-        ..refused()
-    };
-    let bad_graph = Case {
+/// An added graph with a bad line, before keys with one.
+const BAD_MORE: Case<'static> = Case {
+    more: b"<urn:a> <urn:p> \"x\" .\n<a> <urn:p> \"x\" .\n",
+    keys: b"end\n",
+    err: "more:2: relative IRI\n",
+    ..REFUSED
+};
+
+/// An added graph that is not there.
+const NO_MORE: Case<'static> = Case {
+    words: &["grow", "g", "none", "k"],
+    status: 3,
+    err: "more: read failed\n",
+    ..REFUSED
+};
+
+/// Growths that are refused by one of their files, or that can't read it.
+static REFUSED_FILES: [Case<'static>; 5] = [
+    BAD_MORE,
+    Case {
         graph: b"<urn:a> <urn:p> .\n",
         err: "graph:1: object expected\n",
-        ..bad_more
-    };
-    let bad_keys = Case {
+        ..BAD_MORE
+    },
+    Case {
         keys: b"end\n",
         err: "keys:1: statement out of place\n",
-        ..refused()
-    };
-    let missing = Case {
-        words: &["grow", "g", "none", "k"],
-        status: 3,
-        err: "more: read failed\n",
-        ..refused()
-    };
-    let unread = Case {
-        words: grow().words,
+        ..REFUSED
+    },
+    NO_MORE,
+    Case {
+        words: &["grow", "g", "m", "k"],
         failing: 5,
-        ..missing
-    };
-    for (row, case) in [bad_more, bad_graph, bad_keys, missing, unread]
-        .into_iter()
-        .enumerate()
-    {
-        assert!(rt; holds(&rt, &case), "row {row}");
+        ..NO_MORE
+    },
+];
+
+fn refused_files() -> &'static [Case<'static>] {
+    &REFUSED_FILES
+}
+
+#[test]
+fn added_graphs_are_refused_after_the_graph_and_before_keys(rt: HostRuntime) {
+    for (row, case) in refused_files().iter().enumerate() {
+        assert!(rt; holds(&rt, case), "row {row}");
     }
+}
+
+/// Seven triples, of which six may be.
+const SEVEN_TRIPLES: Case<'static> = Case {
+    more: b"<urn:al1> <urn:by> <urn:ar1> .\n",
+    limits: Limits {
+        triples: 6,
+        ..Limits::STANDARD
+    },
+    err: "more:1: too many triples\n",
+    ..REFUSED
+};
+
+/// One pair, where none may be.
+const ONE_PAIR: Case<'static> = Case {
+    graph: ONE_TYPE,
+    more: OTHER_TYPE,
+    keys: ONE_VALUE,
+    limits: Limits {
+        pairs: 0,
+        ..Limits::STANDARD
+    },
+    err: "pairs: more than 0\n",
+    ..REFUSED
+};
+
+/// Growths beyond a limit, and at it.
+static LIMITED: [Case<'static>; 4] = [
+    SEVEN_TRIPLES,
+    Case {
+        more: b"# none\n",
+        out: ONE_CLASS,
+        status: 0,
+        err: "",
+        ..SEVEN_TRIPLES
+    },
+    ONE_PAIR,
+    Case {
+        more: b"",
+        status: 0,
+        err: "",
+        ..ONE_PAIR
+    },
+];
+
+fn limited() -> &'static [Case<'static>] {
+    &LIMITED
 }
 
 #[test]
 fn triples_and_pairs_of_both_graphs_are_limited_together(rt: HostRuntime) {
-    let seven_triples = Case {
-        more: b"<urn:al1> <urn:by> <urn:ar1> .\n",
-        limits: Limits {
-            triples: 6,
-            ..Limits::STANDARD
-        },
-        err: "more:1: too many triples\n",
-        ..refused()
-    };
-    let six_triples = Case {
-        more: b"# none\n",
-        out: grow().out,
-        status: 0,
-        err: "",
-        ..seven_triples
-    };
-    let one_pair = Case {
-        graph: ONE_TYPE,
-        more: OTHER_TYPE,
-        keys: ONE_VALUE,
-        limits: Limits {
-            pairs: 0,
-            ..Limits::STANDARD
-        },
-        err: "pairs: more than 0\n",
-        ..refused()
-    };
-    let no_pair = Case {
-        more: b"",
-        status: 0,
-        err: "",
-        ..one_pair
-    };
-    for (row, case) in [seven_triples, six_triples, one_pair, no_pair]
-        .into_iter()
-        .enumerate()
-    {
-        assert!(rt; holds(&rt, &case), "row {row}");
+    for (row, case) in limited().iter().enumerate() {
+        assert!(rt; holds(&rt, case), "row {row}");
     }
 }
 

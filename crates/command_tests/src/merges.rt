@@ -102,41 +102,48 @@ fn a_merged_graph_is_matched_as_any_other(rt: HostRuntime) {
     assert!(rt; holds(&rt, &again));
 }
 
-#[test]
-fn merges_are_refused_as_matches_are(rt: HostRuntime) {
-    let refused = Case {
-        status: 2,
-        out: "",
-        ..merge()
-    };
-    let bad_graph = Case {
+/// A merge that is refused.
+const REFUSED: Case<'static> = Case {
+    status: 2,
+    out: "",
+    ..MERGE
+};
+
+/// Merges that are refused, or that can't read a file.
+static REFUSALS: [Case<'static>; 4] = [
+    Case {
         graph: b"<urn:a> <urn:p> .\n",
         err: "graph:1: object expected\n",
-        ..refused
-    };
-    let bad_keys = Case {
+        ..REFUSED
+    },
+    Case {
         keys: b"end\n",
         err: "keys:1: statement out of place\n",
-        ..refused
-    };
-    let few_pairs = Case {
+        ..REFUSED
+    },
+    Case {
         limits: Limits {
             pairs: 0,
             ..Limits::STANDARD
         },
         err: "pairs: more than 0\n",
-        ..refused
-    };
-    let missing = Case {
+        ..REFUSED
+    },
+    Case {
         words: &["merge", "none", "k"],
         status: 3,
         err: "graph: read failed\n",
-        ..refused
-    };
-    for (row, case) in [bad_graph, bad_keys, few_pairs, missing]
-        .into_iter()
-        .enumerate()
-    {
-        assert!(rt; holds(&rt, &case), "row {row}");
+        ..REFUSED
+    },
+];
+
+fn refusals() -> &'static [Case<'static>] {
+    &REFUSALS
+}
+
+#[test]
+fn merges_are_refused_as_matches_are(rt: HostRuntime) {
+    for (row, case) in refusals().iter().enumerate() {
+        assert!(rt; holds(&rt, case), "row {row}");
     }
 }

@@ -196,28 +196,40 @@ fn why_of_four() -> Case<'static> {
     WHY_OF_FOUR
 }
 
+/// Whether a check leaves this of the reason why the artist is the same as another entity.
+fn is_checked<R: AllocGlobal + Threads + Wait + Sync + Abort>(
+    rt: &R,
+    second: &str,
+    out: &str,
+) -> bool {
+    let asked = Case {
+        words: &["why", "g", "k", "<urn:ar1>", second],
+        ..why_of_four()
+    };
+    let proof = printed(rt, &asked, &OpenGate).expect(rt, "a proof");
+    let checked = Case {
+        words: &["check", "g", "k", "p"],
+        proof: &proof,
+        out,
+        ..why_of_four()
+    };
+    holds(rt, &checked)
+}
+
 #[test]
 fn a_reason_has_the_steps_that_it_needs(rt: HostRuntime) {
-    let four = why_of_four();
     for (second, accepted) in [("<urn:ar2>", "accepted 2\n"), ("<urn:ar1>", "accepted 0\n")] {
-        let asked = Case {
-            words: &["why", "g", "k", "<urn:ar1>", second],
-            ..four
-        };
-        let proof = printed(&rt, &asked, &OpenGate).expect(&rt, "a proof");
-        let checked = Case {
-            words: &["check", "g", "k", "p"],
-            proof: &proof,
-            out: accepted,
-            ..four
-        };
-        assert!(rt; holds(&rt, &checked), "{second}");
+        assert!(rt; is_checked(&rt, second, accepted), "{second}");
     }
+}
+
+#[test]
+fn there_is_no_reason_for_two_that_are_not_the_same(rt: HostRuntime) {
     let apart = Case {
         words: &["why", "g", "k", "<urn:al1>", "<urn:al3>"],
         status: 1,
         out: NOT_THE_SAME,
-        ..four
+        ..why_of_four()
     };
     assert!(rt; holds(&rt, &apart));
 }
@@ -241,47 +253,55 @@ fn reasons_are_found_with_any_workers(rt: HostRuntime) {
     }
 }
 
-#[test]
-fn files_are_refused_before_words_and_words_before_pairs(rt: HostRuntime) {
-    let refused = Case {
-        words: &["why", "g", "k", "al1", "al2"],
-        limits: Limits {
-            pairs: 0,
-            ..Limits::STANDARD
-        },
-        status: 2,
-        out: "",
-        err: NO_FIRST,
-        ..why()
-    };
-    let bad_graph = Case {
+/// A reason that is refused, since its first word names no entity.
+const REFUSED: Case<'static> = Case {
+    words: &["why", "g", "k", "al1", "al2"],
+    limits: Limits {
+        pairs: 0,
+        ..Limits::STANDARD
+    },
+    status: 2,
+    out: "",
+    err: NO_FIRST,
+    ..WHY
+};
+
+/// Reasons with more than one fault.
+static REFUSALS: [Case<'static>; 5] = [
+    REFUSED,
+    Case {
         graph: b"<urn:a> <urn:p> .\n",
         keys: b"end\n",
         err: "graph:1: object expected\n",
-        ..refused
-    };
-    let bad_keys = Case {
+        ..REFUSED
+    },
+    Case {
         keys: b"end\n",
         err: "keys:1: statement out of place\n",
-        ..refused
-    };
-    let few_pairs = Case {
-        words: why().words,
+        ..REFUSED
+    },
+    Case {
+        words: &["why", "g", "k", "<urn:al1>", "<urn:al2>"],
         err: "pairs: more than 0\n",
-        ..refused
-    };
-    let dashes = Case {
+        ..REFUSED
+    },
+    Case {
         words: &["why", "--workers", "4", "g", "k"],
         keys: ALBUM_KEY,
         status: 3,
         err: "graph: read failed\n",
-        ..refused
-    };
-    for (row, case) in [refused, bad_graph, bad_keys, few_pairs, dashes]
-        .into_iter()
-        .enumerate()
-    {
-        assert!(rt; holds(&rt, &case), "row {row}");
+        ..REFUSED
+    },
+];
+
+fn refusals() -> &'static [Case<'static>] {
+    &REFUSALS
+}
+
+#[test]
+fn files_are_refused_before_words_and_words_before_pairs(rt: HostRuntime) {
+    for (row, case) in refusals().iter().enumerate() {
+        assert!(rt; holds(&rt, case), "row {row}");
     }
 }
 

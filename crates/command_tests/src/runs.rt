@@ -72,29 +72,45 @@ pub fn texts(alloc: Global, words: &[&str]) -> Result<Vec<Text>, NoMemory> {
     Ok(texts)
 }
 
-/// A file with its name.
-fn file(alloc: Global, name: &[u8], content: &[u8]) -> Result<(Text, Vec<u8>), NoMemory> {
+/// Adds a file with its name.
+fn add_file(
+    alloc: Global,
+    files: &mut Vec<(Text, Vec<u8>)>,
+    name: &[u8],
+    content: &[u8],
+) -> Result<(), NoMemory> {
     let name = Text::from_bytes(alloc, name)?;
-    Ok((name, Vec::from_slice(alloc, content)?))
+    files.push((name, Vec::from_slice(alloc, content)?))?;
+    Ok(())
 }
 
 /// The files of a case.
 fn files_of(alloc: Global, case: &Case<'_>) -> Result<Vec<(Text, Vec<u8>)>, NoMemory> {
     let mut files = Vec::new(alloc);
-    files.push(file(alloc, b"g", case.graph)?)?;
-    files.push(file(alloc, b"m", case.more)?)?;
-    files.push(file(alloc, b"k", case.keys)?)?;
-    files.push(file(alloc, b"p", case.proof)?)?;
+    add_file(alloc, &mut files, b"g", case.graph)?;
+    add_file(alloc, &mut files, b"m", case.more)?;
+    add_file(alloc, &mut files, b"k", case.keys)?;
+    add_file(alloc, &mut files, b"p", case.proof)?;
     Ok(files)
 }
 
-/// What a run with these words and this gate leaves of the files of a case; none where a limit is beyond that of the program.
-pub fn run_of<R: AllocGlobal + Threads + Wait + Sync + Abort, G: Gate>(
+/// The shelf of a case.
+fn shelf_of(alloc: Global, case: &Case<'_>) -> Result<MemShelf, NoMemory> {
+    let files = files_of(alloc, case)?;
+    let failing = [case.failing].to_vec(alloc)?;
+    Ok(MemShelf::new(files, 65_536, failing))
+}
+
+/// The status of a run with these words and this gate over the files of a case; none where a limit is beyond that of the
+/// program.
+fn status_of<R: AllocGlobal + Threads + Wait + Sync + Abort, G: Gate>(
     rt: &R,
     words: &[Text],
     case: &Case<'_>,
     gate: &G,
-) -> Option<Left> {
+    out: &mut SureSink,
+    err: &mut SureSink,
+) -> Option<u8> {
     let limits = case.limits;
     let standard = Limits::STANDARD;
     let within = limits.bytes <= standard.bytes
@@ -105,19 +121,35 @@ pub fn run_of<R: AllocGlobal + Threads + Wait + Sync + Abort, G: Gate>(
         return None;
     }
     let alloc = rt.alloc();
-    let files = files_of(alloc, case).expect(rt, ENOUGH);
-    let failing = [case.failing].to_vec(alloc).expect(rt, ENOUGH);
-    let mut shelf = MemShelf::new(files, 65_536, failing);
-    let mut out = SureSink::new(alloc, 10_000).expect(rt, ENOUGH);
-    let mut err = SureSink::new(alloc, 1000).expect(rt, ENOUGH);
-    let status = run_gated(
-        rt, alloc, words, &mut shelf, &mut out, &mut err, &limits, gate,
-    );
+    let mut shelf = shelf_of(alloc, case).expect(rt, ENOUGH);
+    Some(run_gated(rt, alloc, words, &mut shelf, out, err, &limits, gate))
+}
+
+/// What a run left that ended with this status, where it ended with one.
+fn left_at<R: AllocGlobal + Abort>(
+    rt: &R,
+    status: Option<u8>,
+    out: &[u8],
+    err: &[u8],
+) -> Option<Left> {
     Some(Left {
-        status,
-        out: out.bytes().to_vec(alloc).expect(rt, ENOUGH),
-        err: err.bytes().to_vec(alloc).expect(rt, ENOUGH),
+        status: status?,
+        out: out.to_vec(rt.alloc()).expect(rt, ENOUGH),
+        err: err.to_vec(rt.alloc()).expect(rt, ENOUGH),
     })
+}
+
+/// What a run with these words and this gate leaves of the files of a case; none where a limit is beyond that of the program.
+pub fn run_of<R: AllocGlobal + Threads + Wait + Sync + Abort, G: Gate>(
+    rt: &R,
+    words: &[Text],
+    case: &Case<'_>,
+    gate: &G,
+) -> Option<Left> {
+    let mut out = SureSink::new(rt.alloc(), 10_000).expect(rt, ENOUGH);
+    let mut err = SureSink::new(rt.alloc(), 1000).expect(rt, ENOUGH);
+    let status = status_of(rt, words, case, gate, &mut out, &mut err);
+    left_at(rt, status, out.bytes(), err.bytes())
 }
 
 /// Whether a run with these words leaves what the case says.

@@ -77,35 +77,53 @@ fn find_the_same<R: Threads + Wait + Sync + Abort>(
         && whole.journal.len() == count
 }
 
-#[test]
-fn crews_find_what_one_thread_finds(rt: HostRuntime) {
-    let alloc = rt.alloc();
-    for (kind, count) in [(Kind::Chain, 2), (Kind::Alone, 2), (Kind::Chain, 60)] {
-        let prepared = prepared(&rt, alloc, kind, count);
-        let alone = drained(&rt, alloc, &prepared.setup);
-        for workers in [1, 2, 64] {
-            let same = find_the_same(
-                &rt,
-                alloc,
-                &prepared.setup,
-                workers,
-                &alone.labels,
-                count as usize,
-            );
-            assert!(&rt; same);
-        }
+/// Asserts that crews of three sizes find the same of so many pairs as one thread.
+fn assert_same_as_alone<R: Threads + Wait + Sync + Abort>(
+    rt: &R,
+    alloc: Global,
+    kind: Kind,
+    count: u32,
+) {
+    let prepared = prepared(rt, alloc, kind, count);
+    let alone = drained(rt, alloc, &prepared.setup);
+    for workers in [1, 2, 64] {
+        let same = find_the_same(
+            rt,
+            alloc,
+            &prepared.setup,
+            workers,
+            &alone.labels,
+            count as usize,
+        );
+        assert!(rt; same);
     }
 }
 
 #[test]
+fn crews_find_what_one_thread_finds(rt: HostRuntime) {
+    for (kind, count) in [(Kind::Chain, 2), (Kind::Alone, 2), (Kind::Chain, 60)] {
+        assert_same_as_alone(&rt, rt.alloc(), kind, count);
+    }
+}
+
+/// How often a crew of so many workers identifies, of so many pairs that stand alone.
+fn identified<G: Gate, R: Threads + Wait + Sync + Abort>(
+    rt: &R,
+    alloc: Global,
+    count: u32,
+    workers: u32,
+    gate: &G,
+) -> usize
+    requires { (0 < workers) × (workers ≤ 64) }
+{
+    let prepared = prepared(rt, alloc, Kind::Alone, count);
+    run(rt, alloc, &prepared.setup, workers, gate).journal.len()
+}
+
+#[test]
 fn each_pair_passes_once(rt: HostRuntime) {
-    let alloc = rt.alloc();
-    let prepared = prepared(&rt, alloc, Kind::Alone, 100);
-    let gate = Counts::new(alloc, 100).expect(&rt, ENOUGH);
-    assert_eq!(&rt;
-        run(&rt, alloc, &prepared.setup, 4, &gate).journal.len(),
-        100
-    );
+    let gate = Counts::new(rt.alloc(), 100).expect(&rt, ENOUGH);
+    assert_eq!(&rt; identified(&rt, rt.alloc(), 100, 4, &gate), 100);
     for count in &gate.passed {
         assert_eq!(&rt; count.load(Ordering::SeqCst), 1);
     }
@@ -113,39 +131,41 @@ fn each_pair_passes_once(rt: HostRuntime) {
 
 #[test]
 fn one_worker_begins_with_its_last_hint(rt: HostRuntime) {
-    let alloc = rt.alloc();
-    let prepared = prepared(&rt, alloc, Kind::Alone, 100);
-    let gate = Counts::new(alloc, 100).expect(&rt, ENOUGH);
-    assert_eq!(&rt;
-        run(&rt, alloc, &prepared.setup, 1, &gate).journal.len(),
-        100
-    );
+    let gate = Counts::new(rt.alloc(), 100).expect(&rt, ENOUGH);
+    assert_eq!(&rt; identified(&rt, rt.alloc(), 100, 1, &gate), 100);
     assert_eq!(&rt; gate.first.load(Ordering::SeqCst), 99);
 }
 
 #[test]
 fn two_workers_are_at_the_gate_at_once(rt: HostRuntime) {
-    let alloc = rt.alloc();
-    let prepared = prepared(&rt, alloc, Kind::Alone, 2);
     let gate = Meeting::new();
-    assert_eq!(&rt; run(&rt, alloc, &prepared.setup, 2, &gate).journal.len(), 2);
+    assert_eq!(&rt; identified(&rt, rt.alloc(), 2, 2, &gate), 2);
     assert_eq!(&rt; gate.met.load(Ordering::SeqCst), 1);
+}
+
+/// Asserts that crews of four sizes identify each of so many pairs.
+fn assert_all_found<R: Threads + Wait + Sync + Abort>(
+    rt: &R,
+    alloc: Global,
+    kind: Kind,
+    count: u32,
+) {
+    let prepared = prepared(rt, alloc, kind, count);
+    for workers in [1, 2, 4, 64] {
+        assert_eq!(rt;
+            run(rt, alloc, &prepared.setup, workers, &OpenGate)
+                .journal
+                .len(),
+            count as usize
+        );
+    }
 }
 
 #[test]
 fn crews_of_all_sizes_come_to_the_same(rt: HostRuntime) {
-    let alloc = rt.alloc();
     for count in [0, 1, 3, 1000] {
         for kind in [Kind::Alone, Kind::Chain] {
-            let prepared = prepared(&rt, alloc, kind, count);
-            for workers in [1, 2, 4, 64] {
-                assert_eq!(&rt;
-                    run(&rt, alloc, &prepared.setup, workers, &OpenGate)
-                        .journal
-                        .len(),
-                    count as usize
-                );
-            }
+            assert_all_found(&rt, rt.alloc(), kind, count);
         }
     }
 }

@@ -29,19 +29,29 @@ static KEYS: [PatternTable<'static>; 2] = [
     },
 ];
 
+/// The rows of a name with its pair's literal.
+fn push_name(
+    rows: &mut Vec<[u32; 3]>,
+    name: u32,
+    literal: u32,
+    ends: bool,
+) -> Result<(), AllocError> {
+    let last = if ends {
+        [name, 4, literal]
+    } else {
+        [name, 3, name.wrapping_add(3)]
+    };
+    rows.push([name, 0, 1])?;
+    rows.push([name, 2, literal])?;
+    rows.push(last)?;
+    Ok(())
+}
+
 /// The rows of a pair, whose names are `first` and the next number, with its literal after them.
 fn push_pair(rows: &mut Vec<[u32; 3]>, first: u32, ends: bool) -> Result<(), AllocError> {
     let literal = first.wrapping_add(2);
-    for name in [first, first.wrapping_add(1)] {
-        rows.push([name, 0, 1])?;
-        rows.push([name, 2, literal])?;
-        if ends {
-            rows.push([name, 4, literal])?;
-        } else {
-            rows.push([name, 3, name.wrapping_add(3)])?;
-        }
-    }
-    Ok(())
+    push_name(rows, first, literal, ends)?;
+    push_name(rows, first.wrapping_add(1), literal, ends)
 }
 
 /// The rows of so many pairs, their literals, and the number after the last name.

@@ -40,19 +40,52 @@ fn texts(alloc: Global, words: &[&str]) -> Result<Vec<Text>, NoMemory> {
     Ok(texts)
 }
 
-/// A file with its name.
-fn file(alloc: Global, name: &[u8], content: &[u8]) -> Result<(Text, Vec<u8>), NoMemory> {
+/// Adds a file with its name.
+fn add_file(
+    alloc: Global,
+    files: &mut Vec<(Text, Vec<u8>)>,
+    name: &[u8],
+    content: &[u8],
+) -> Result<(), NoMemory> {
     let name = Text::from_bytes(alloc, name)?;
-    Ok((name, Vec::from_slice(alloc, content)?))
+    files.push((name, Vec::from_slice(alloc, content)?))?;
+    Ok(())
 }
 
 /// The files of the albums.
 fn files(alloc: Global) -> Result<Vec<(Text, Vec<u8>)>, NoMemory> {
     let mut files = Vec::new(alloc);
-    files.push(file(alloc, b"g", ALBUMS)?)?;
-    files.push(file(alloc, b"k", ALBUM_KEY)?)?;
-    files.push(file(alloc, b"p", ALBUM_PROOF.as_bytes())?)?;
+    add_file(alloc, &mut files, b"g", ALBUMS)?;
+    add_file(alloc, &mut files, b"k", ALBUM_KEY)?;
+    add_file(alloc, &mut files, b"p", ALBUM_PROOF.as_bytes())?;
     Ok(files)
+}
+
+/// The shelf of the albums, whose call with the number `read` fails.
+fn shelf_failing_at(alloc: Global, read: u64) -> Result<MemShelf, NoMemory> {
+    let reads = [read].to_vec(alloc)?;
+    Ok(MemShelf::new(files(alloc)?, 65_536, reads))
+}
+
+/// An output that takes at most `most` bytes in one call, and whose call with the number `write` fails.
+fn output_failing_at(alloc: Global, write: u64, most: usize) -> Result<MemSink, NoMemory>
+    requires { 0 < most }
+{
+    MemSink::new(alloc, most, 1000, [write].to_vec(alloc)?)
+}
+
+/// The status of the command over these devices.
+fn status_over<R: AllocGlobal + Threads + Wait + Sync + Abort>(
+    rt: &R,
+    command: &Command,
+    read: u64,
+    out: &mut MemSink,
+    err: &mut MemSink,
+) -> u8 {
+    let alloc = rt.alloc();
+    let words = texts(alloc, command.words).expect(rt, ENOUGH);
+    let mut shelf = shelf_failing_at(alloc, read).expect(rt, ENOUGH);
+    run(rt, alloc, &words, &mut shelf, out, err)
 }
 
 /// What the command leaves where the call of the shelf with the number `read` fails, and that of the output with the number
@@ -67,13 +100,9 @@ pub fn end_of<R: AllocGlobal + Threads + Wait + Sync + Abort>(
     requires { 0 < most }
 {
     let alloc = rt.alloc();
-    let words = texts(alloc, command.words).expect(rt, ENOUGH);
-    let reads = [read].to_vec(alloc).expect(rt, ENOUGH);
-    let writes = [write].to_vec(alloc).expect(rt, ENOUGH);
-    let mut shelf = MemShelf::new(files(alloc).expect(rt, ENOUGH), 65_536, reads);
-    let mut out = MemSink::new(alloc, most, 1000, writes).expect(rt, ENOUGH);
+    let mut out = output_failing_at(alloc, write, most).expect(rt, ENOUGH);
     let mut err = MemSink::new(alloc, 100, 100, Vec::new(alloc)).expect(rt, ENOUGH);
-    let status = run(rt, alloc, &words, &mut shelf, &mut out, &mut err);
+    let status = status_over(rt, command, read, &mut out, &mut err);
     End {
         status,
         out: out.bytes().to_vec(alloc).expect(rt, ENOUGH),

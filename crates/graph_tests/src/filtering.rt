@@ -72,6 +72,21 @@ fn world(rows: &[[u32; 3]]) -> GraphTable<'_> {
     }
 }
 
+/// Whether these are kept of some pairs in a graph by some keys.
+fn are_kept<R: Threads + Sync>(
+    rt: &R,
+    alloc: Global,
+    table: &GraphTable<'_>,
+    keys: &[PatternTable<'_>],
+    pairs: &[(u32, u32)],
+    wanted: &[(u32, u32)],
+) -> Result<bool, Fail> {
+    let graph = table.build(alloc)?;
+    let keys = patterns_of(alloc, keys)?;
+    let kept = keep(rt, alloc, &graph, &keys, pairs)?;
+    Ok(kept.as_slice() == wanted)
+}
+
 /// Whether what is kept in a graph is what a case names.
 fn holds<R: Threads + Sync>(
     rt: &R,
@@ -79,10 +94,7 @@ fn holds<R: Threads + Sync>(
     table: &GraphTable<'_>,
     case: &Case,
 ) -> Result<bool, Fail> {
-    let graph = table.build(alloc)?;
-    let keys = patterns_of(alloc, case.keys)?;
-    let kept = keep(rt, alloc, &graph, &keys, case.pairs)?;
-    Ok(kept.as_slice() == case.kept)
+    are_kept(rt, alloc, table, case.keys, case.pairs, case.kept)
 }
 
 /// What is asked of the names themselves, along one edge, and along two; then order, repeats and what is no name.
@@ -413,12 +425,24 @@ fn worked() -> [&'static Case; 5] {
 }
 
 #[test]
-fn worked_graphs_are_filtered(rt: HostRuntime) -> Result<(), Fail> {
-    let [both, next, folded, value, made] = worked();
+fn a_pair_is_kept_where_some_key_pairs_its_names(rt: HostRuntime) -> Result<(), Fail> {
+    let [both, next, _, _, _] = worked();
     assert!(rt; holds(&rt, rt.alloc(), &two_pairs(), both)?);
     assert!(rt; holds(&rt, rt.alloc(), &two_pairs(), next)?);
+    Ok(())
+}
+
+#[test]
+fn what_is_alike_is_kept_by_a_folded_value_alone(rt: HostRuntime) -> Result<(), Fail> {
+    let [_, _, folded, value, _] = worked();
     assert!(rt; holds(&rt, rt.alloc(), &folded_values(), folded)?);
     assert!(rt; holds(&rt, rt.alloc(), &folded_values(), value)?);
+    Ok(())
+}
+
+#[test]
+fn albums_and_artists_are_filtered(rt: HostRuntime) -> Result<(), Fail> {
+    let [_, _, _, _, made] = worked();
     assert!(rt; holds(&rt, rt.alloc(), &albums(), made)?);
     Ok(())
 }
@@ -443,10 +467,8 @@ fn many(alloc: Global) -> Result<(Vec<(u32, u32)>, Vec<(u32, u32)>), AllocError>
 #[test]
 fn many_pairs_stay_in_order(rt: HostRuntime) -> Result<(), Fail> {
     let alloc = rt.alloc();
-    let graph = two_pairs().build(alloc)?;
-    let keys = patterns_of(alloc, worked()[1].keys)?;
     let (pairs, wanted) = many(alloc)?;
-    let kept = keep(&rt, alloc, &graph, &keys, &pairs)?;
-    assert!(rt; kept.as_slice() == wanted.as_slice());
+    let are = are_kept(&rt, alloc, &two_pairs(), worked()[1].keys, &pairs, &wanted)?;
+    assert!(rt; are);
     Ok(())
 }

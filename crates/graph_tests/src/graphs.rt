@@ -19,13 +19,30 @@ fn repeated() -> GraphTable<'static> {
     }
 }
 
+/// Its graph.
+fn with_repeats(alloc: Global) -> Result<Graph, TableStop> {
+    repeated().build(alloc)
+}
+
 #[test]
 fn rows_are_sorted_and_each_is_kept_once(rt: HostRuntime) -> Result<(), Fail> {
-    let graph = repeated().build(rt.alloc())?;
+    let graph = with_repeats(rt.alloc())?;
     assert_eq!(rt; graph.rows(), [[0, 1, 2], [0, 1, 3]].as_slice());
     assert_eq!(rt; graph.names(), 4);
+    Ok(())
+}
+
+#[test]
+fn rows_are_found_from_either_end(rt: HostRuntime) -> Result<(), Fail> {
+    let graph = with_repeats(rt.alloc())?;
     assert_eq!(rt; graph.outgoing(0, 1), [2, 3].as_slice());
     assert_eq!(rt; graph.incoming(2, 1), [0].as_slice());
+    Ok(())
+}
+
+#[test]
+fn a_graph_without_types_has_entities(rt: HostRuntime) -> Result<(), Fail> {
+    let graph = with_repeats(rt.alloc())?;
     assert!(rt; !graph.is_entity(1) && graph.is_entity(0) && !graph.is_entity(2));
     assert!(rt; graph.with_type(1).is_empty() && !graph.has_type(0, 2));
     Ok(())
@@ -55,16 +72,33 @@ fn is_no_name(graph: &Graph, n: u32) -> bool {
         && !graph.is_literal(n)
 }
 
+/// The graph of `typed`.
+fn with_types(alloc: Global) -> Result<Graph, TableStop> {
+    typed().build(alloc)
+}
+
 #[test]
-fn look_ups_answer_for_every_number(rt: HostRuntime) -> Result<(), Fail> {
-    let graph = typed().build(rt.alloc())?;
+fn types_and_rows_are_those_of_the_table(rt: HostRuntime) -> Result<(), Fail> {
+    let graph = with_types(rt.alloc())?;
     assert_eq!(rt; graph.with_type(2), [0, 3].as_slice());
     assert!(rt; graph.has_type(3, 2) && !graph.has_type(2, 3) && !graph.has_type(5, 2));
     assert!(rt; graph.has(3, 4, 6) && !graph.has(3, 4, 5) && !graph.has(6, 4, 3));
+    Ok(())
+}
+
+#[test]
+fn entities_and_literals_are_told_apart(rt: HostRuntime) -> Result<(), Fail> {
+    let graph = with_types(rt.alloc())?;
     assert!(rt;
         graph.is_entity(2) && !graph.is_entity(1) && !graph.is_entity(4) && !graph.is_entity(6)
     );
     assert!(rt; graph.is_literal(6) && !graph.is_literal(3));
+    Ok(())
+}
+
+#[test]
+fn look_ups_answer_for_every_number(rt: HostRuntime) -> Result<(), Fail> {
+    let graph = with_types(rt.alloc())?;
     assert_eq!(rt; graph.names(), 7);
     assert_eq!(rt; graph.alike(6), 5);
     assert!(rt; is_no_name(&graph, 7) && is_no_name(&graph, 4_294_967_295));
@@ -138,16 +172,25 @@ fn parts_that_make_no_graph_are_told(rt: HostRuntime) -> Result<(), TableStop> {
     Ok(())
 }
 
+/// An index of rows that begin with 0 and 2.
+fn indexed(alloc: Global) -> Result<Index, Fail> {
+    let rows = [[2, 9, 7], [0, 5, 8], [2, 9, 3], [2, 9, 7]];
+    Ok(Index::build(alloc, rows.to_vec(alloc)?, 3)?)
+}
+
 #[test]
 fn an_index_finds_rows_by_two_numbers(rt: HostRuntime) -> Result<(), Fail> {
-    let rows = [[2, 9, 7], [0, 5, 8], [2, 9, 3], [2, 9, 7]];
-    let index = Index::build(rt.alloc(), rows.to_vec(rt.alloc())?, 3)?;
+    let index = indexed(rt.alloc())?;
     assert_eq!(rt; index.find(2, 9), [3, 7].as_slice());
     assert!(rt;
         index.find(2, 5).is_empty() && index.find(1, 9).is_empty() && index.find(3, 9).is_empty()
     );
     assert!(rt; index.begins(0) && !index.begins(1) && !index.begins(3));
+    Ok(())
+}
+
+#[test]
+fn ascending_numbers_are_searched(rt: HostRuntime) {
     assert!(rt; holds(&[3, 7], 7) && !holds(&[3, 7], 5));
     assert_eq!(rt; above(&[3, 7, 9], 3), [7, 9].as_slice());
-    Ok(())
 }

@@ -3,6 +3,7 @@
 use fixtures::PatternTable;
 use fixtures::worked_patterns::{CHAINED, NAME_AND_NEXT};
 use key_plan::Plan;
+use std::alloc::Global;
 use std::process::Abort;
 use std::test::Fail;
 
@@ -11,14 +12,22 @@ fn tables() -> (PatternTable<'static>, PatternTable<'static>) {
     (NAME_AND_NEXT, CHAINED)
 }
 
+/// The plan of a pattern.
+fn plan_of(alloc: Global, table: &PatternTable<'_>) -> Result<Plan, Fail> {
+    Ok(Plan::new(alloc, &table.build(alloc)?)?)
+}
+
 #[test]
-fn slots_come_by_distance_and_then_by_number(rt: HostRuntime) -> Result<(), Fail> {
-    let (near, far) = tables();
-    let plan = Plan::new(rt.alloc(), &near.build(rt.alloc())?)?;
+fn slots_at_one_distance_come_by_number(rt: HostRuntime) -> Result<(), Fail> {
+    let plan = plan_of(rt.alloc(), &tables().0)?;
     assert_eq!(rt; plan.radius(), 1);
     assert_eq!(rt; plan.order(), [0u8, 1, 2].as_slice());
+    Ok(())
+}
 
-    let plan = Plan::new(rt.alloc(), &far.build(rt.alloc())?)?;
+#[test]
+fn slots_come_by_distance_and_then_by_number(rt: HostRuntime) -> Result<(), Fail> {
+    let plan = plan_of(rt.alloc(), &tables().1)?;
     assert_eq!(rt; plan.radius(), 3);
     assert_eq!(rt; plan.order(), [0u8, 3, 4, 2, 1].as_slice());
     assert_eq!(rt; plan.len(), 5);

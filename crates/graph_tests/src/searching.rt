@@ -1,6 +1,6 @@
 //! What a search with a view finds.
 
-ghost use Rattle.std.specs.Prelude.{◌<◌, ◌^◌, length};
+ghost use Rattle.std.specs.Prelude.{◌≡◌, ◌<◌, ◌^◌, All, IfOk, length};
 
 use chase_laws::{Pattern, Places};
 use fixtures::worked_graphs::{folded_values, two_pairs, woven};
@@ -13,14 +13,35 @@ use std::process::Abort;
 use std::test::Fail;
 use typed_graph::Graph;
 
-#[test]
-fn view_finds_labels_and_keeps_its_room(rt: HostRuntime) -> Result<(), Fail> {
-    let mut view = View::new(rt.alloc(), 3)?;
+/// A view with two names and room for one more.
+fn two_labels(alloc: Global) -> Result<View, NoMemory>
+    ensures room { IfOk result (λ v. v.room ≡ 3) }
+    ensures names { IfOk result (λ v. length v.pairs ≡ 2) }
+{
+    let mut view = View::new(alloc, 3)?;
     view.push(2, 7);
     view.push(5, 1);
+    Ok(view)
+}
+
+#[test]
+fn a_view_finds_labels(rt: HostRuntime) -> Result<(), Fail> {
+    let view = two_labels(rt.alloc())?;
     assert!(rt; view.label(2) == Some(7) && view.label(3) == None && view.label(5) == Some(1));
-    assert!(rt; view.at(1) == (5, 1) && view.len() == 2 && view.room() == 3);
     assert!(rt; view.same(4, 4) && !view.same(2, 5) && !view.same(3, 6));
+    Ok(())
+}
+
+#[test]
+fn a_view_goes_by_places_and_has_room(rt: HostRuntime) -> Result<(), Fail> {
+    let view = two_labels(rt.alloc())?;
+    assert!(rt; view.at(1) == (5, 1) && view.len() == 2 && view.room() == 3);
+    Ok(())
+}
+
+#[test]
+fn a_cleared_view_keeps_its_room(rt: HostRuntime) -> Result<(), Fail> {
+    let mut view = two_labels(rt.alloc())?;
     view.clear();
     view.push(0, 4);
     view.push(1, 4);
@@ -126,11 +147,21 @@ fn by_woven() -> &'static [PatternTable<'static>] {
 
 static WOVEN_ALONE: [PatternTable<'static>; 1] = [worked_patterns::WOVEN];
 
-/// A view of the four entities of `two_pairs`, where 3 has this label and each other one its own number.
-fn view_with(alloc: Global, label_of_three: u32) -> Result<View, NoMemory> {
+/// A view of 0, which has its own number as label, and of 3, which has this label, with room for two more.
+fn view_of_first(alloc: Global, label_of_three: u32) -> Result<View, NoMemory>
+    ensures room { IfOk result (λ v. v.room ≡ 4) }
+    ensures two { IfOk result (λ v. length v.pairs ≡ 2) }
+    ensures below { IfOk result (λ v. All (λ p. p.0 < 4) v.pairs) }
+{
     let mut view = View::new(alloc, 4)?;
     view.push(0, 0);
     view.push(3, label_of_three);
+    Ok(view)
+}
+
+/// A view of the four entities of `two_pairs`, where 3 has this label and each other one its own number.
+fn view_with(alloc: Global, label_of_three: u32) -> Result<View, NoMemory> {
+    let mut view = view_of_first(alloc, label_of_three)?;
     view.push(8, 8);
     view.push(9, 9);
     Ok(view)

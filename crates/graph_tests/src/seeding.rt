@@ -77,14 +77,20 @@ fn world(rows: &[[u32; 3]]) -> GraphTable<'_> {
     }
 }
 
-/// Whether the candidate pairs in a graph are those that a case names, or are too many as it says.
-fn holds(alloc: Global, table: &GraphTable<'_>, case: &Case) -> Result<bool, Fail> {
+/// The candidate pairs in a graph by the keys and the limit of a case, or why there are none.
+fn seeded(
+    alloc: Global,
+    table: &GraphTable<'_>,
+    case: &Case,
+) -> Result<Result<Vec<(u32, u32)>, SeedStop>, Fail> {
     let graph = table.build(alloc)?;
     let keys = patterns_of(alloc, case.keys)?;
-    match (
-        seed(alloc, &graph, &keys, u64::from(case.limit)),
-        case.wanted,
-    ) {
+    Ok(seed(alloc, &graph, &keys, u64::from(case.limit)))
+}
+
+/// Whether the candidate pairs in a graph are those that a case names, or are too many as it says.
+fn holds(alloc: Global, table: &GraphTable<'_>, case: &Case) -> Result<bool, Fail> {
+    match (seeded(alloc, table, case)?, case.wanted) {
         (Ok(pairs), Ok(wanted)) => Ok(pairs.as_slice() == wanted),
         (Err(stop), Err(found)) => Ok(stop == SeedStop::Fault(TooManyPairs { found })),
         (Ok(_), Err(_)) | (Err(_), Ok(_)) => Ok(false),
@@ -446,13 +452,19 @@ fn alike() -> [&'static Case; 3] {
 #[test]
 fn folded_values_pair_what_is_alike(rt: HostRuntime) -> Result<(), Fail> {
     let typed = folded_values();
-    let untyped = GraphTable {
-        rdf_type: None,
-        ..typed
-    };
-    let [folded, value, without_types] = alike();
+    let [folded, value, _] = alike();
     assert!(rt; holds(rt.alloc(), &typed, folded)?);
     assert!(rt; holds(rt.alloc(), &typed, value)?);
+    Ok(())
+}
+
+#[test]
+fn what_has_no_type_is_not_paired(rt: HostRuntime) -> Result<(), Fail> {
+    let untyped = GraphTable {
+        rdf_type: None,
+        ..folded_values()
+    };
+    let [_, _, without_types] = alike();
     assert!(rt; holds(rt.alloc(), &untyped, without_types)?);
     Ok(())
 }

@@ -12,11 +12,21 @@ use fixtures::patterns_of;
 use grow_match::{Grown, grow};
 use pair_seed::{SeedStop, TooManyPairs};
 use std::alloc::Global;
+use std::process::Abort;
 use std::sync::Wait;
 use std::sync::atomic::Ordering;
 use std::test::Fail;
 use std::thread::Threads;
 use steal_pool::{Gate, OpenGate};
+
+/// What growth comes to, or how many candidate pairs are told where there are too many: 0 stands for no memory.
+fn grown_or_told(made: Result<Grown, SeedStop>) -> Result<Grown, u64> {
+    match made {
+        Ok(grown) => Ok(grown),
+        Err(SeedStop::Fault(TooManyPairs { found })) => Err(found),
+        Err(SeedStop::NoMemory) => Err(0),
+    }
+}
 
 /// What a case comes to under a limit, by so many workers; or how many candidate pairs are told where there are too many.
 fn grown<R: Threads + Wait + Sync, G: Gate>(
@@ -31,7 +41,7 @@ fn grown<R: Threads + Wait + Sync, G: Gate>(
 {
     let (first, both) = graphs_of(alloc, &case.first, case.added)?;
     let keys = patterns_of(alloc, case.keys)?;
-    match grow(
+    let made = grow(
         rt,
         alloc,
         first,
@@ -40,11 +50,8 @@ fn grown<R: Threads + Wait + Sync, G: Gate>(
         u64::from(limit),
         workers,
         gate,
-    ) {
-        Ok(grown) => Ok(Ok(grown)),
-        Err(SeedStop::Fault(TooManyPairs { found })) => Ok(Err(found)),
-        Err(SeedStop::NoMemory) => Ok(Err(0)),
-    }
+    );
+    Ok(grown_or_told(made))
 }
 
 /// Whether one worker finds what a case says, in this order and by so many searches, and keeps what it found first.
@@ -82,63 +89,54 @@ fn is_found_together<R: Threads + Wait + Sync>(
     Ok(right)
 }
 
+/// Asserts that one worker and several find what a case says.
+fn assert_found<R: Threads + Wait + Sync + Abort>(
+    rt: &R,
+    alloc: Global,
+    case: &Case,
+) -> Result<(), Fail> {
+    assert!(rt; is_found(rt, alloc, case)?);
+    assert!(rt; is_found_together(rt, alloc, case)?);
+    Ok(())
+}
+
 #[test]
 fn a_failed_pair_is_found_and_a_kept_pair_is_not_searched_again(
     rt: HostRuntime,
 ) -> Result<(), Fail> {
     let case = failed_pair();
     assert_eq!(rt; case.passes, 3);
-    assert!(rt; is_found(&rt, rt.alloc(), &case)?);
-    assert!(rt; is_found_together(&rt, rt.alloc(), &case)?);
-    Ok(())
+    assert_found(&rt, rt.alloc(), &case)
 }
 
 #[test]
 fn a_type_may_come_later(rt: HostRuntime) -> Result<(), Fail> {
-    let case = late_type();
-    assert!(rt; is_found(&rt, rt.alloc(), &case)?);
-    assert!(rt; is_found_together(&rt, rt.alloc(), &case)?);
-    Ok(())
+    assert_found(&rt, rt.alloc(), &late_type())
 }
 
 #[test]
 fn nothing_may_be_added(rt: HostRuntime) -> Result<(), Fail> {
-    let case = nothing_added();
-    assert!(rt; is_found(&rt, rt.alloc(), &case)?);
-    assert!(rt; is_found_together(&rt, rt.alloc(), &case)?);
-    Ok(())
+    assert_found(&rt, rt.alloc(), &nothing_added())
 }
 
 #[test]
 fn the_first_graph_may_be_empty(rt: HostRuntime) -> Result<(), Fail> {
-    let case = from_nothing();
-    assert!(rt; is_found(&rt, rt.alloc(), &case)?);
-    assert!(rt; is_found_together(&rt, rt.alloc(), &case)?);
-    Ok(())
+    assert_found(&rt, rt.alloc(), &from_nothing())
 }
 
 #[test]
 fn rows_may_come_again_and_in_any_order(rt: HostRuntime) -> Result<(), Fail> {
-    let case = rows_again();
-    assert!(rt; is_found(&rt, rt.alloc(), &case)?);
-    assert!(rt; is_found_together(&rt, rt.alloc(), &case)?);
-    Ok(())
+    assert_found(&rt, rt.alloc(), &rows_again())
 }
 
 #[test]
 fn what_is_kept_leads_on(rt: HostRuntime) -> Result<(), Fail> {
-    let case = late_next();
-    assert!(rt; is_found(&rt, rt.alloc(), &case)?);
-    assert!(rt; is_found_together(&rt, rt.alloc(), &case)?);
-    Ok(())
+    assert_found(&rt, rt.alloc(), &late_next())
 }
 
 #[test]
 fn what_is_found_first_wakes_others(rt: HostRuntime) -> Result<(), Fail> {
-    let case = late_code();
-    assert!(rt; is_found(&rt, rt.alloc(), &case)?);
-    assert!(rt; is_found_together(&rt, rt.alloc(), &case)?);
-    Ok(())
+    assert_found(&rt, rt.alloc(), &late_code())
 }
 
 /// How many candidate pairs are told where there are too many, and none where there are not.

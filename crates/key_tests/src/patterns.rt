@@ -1,9 +1,14 @@
+ghost use Rattle.std.specs.Prelude.{◌≡◌, ◌∷◌, [], List, ℕ, IfOk};
+ghost use Rattle.gk_base.specs.declared.term.Term.{Term};
+ghost use Rattle.key_file.specs.declared.slot.KeySlot.TheVariants.{Entity, Value};
+
 use chase_laws::{Edge, Pattern, Slot};
 use fixtures::texts::{ALBUM_KEY, BASE_AND_LINK_KEYS};
 use gk_base::{NoMemory, Term, Text};
 use key_file::{KeyDef, KeyEdge, KeyFile, KeySlot, compile, is_connected, is_used};
 use key_lang::read_keys;
 use std::alloc::Global;
+use std::process::Abort;
 use std::test::Fail;
 use term_table::Names;
 
@@ -103,18 +108,28 @@ fn iri(alloc: Global, bytes: &[u8]) -> Result<Term, NoMemory> {
     Ok(Term::Iri(text(alloc, bytes)?))
 }
 
+/// A literal or an IRI.
+fn literal_or_iri(alloc: Global, bytes: &[u8], is_literal: bool) -> Result<Term, NoMemory> {
+    if is_literal {
+        Ok(Term::Plain(text(alloc, bytes)?))
+    } else {
+        iri(alloc, bytes)
+    }
+}
+
+/// Makes a term a name, where the names are few.
+fn intern(names: &mut Names, term: Term) -> Result<(), NoMemory> {
+    if names.len() < 1000 {
+        names.intern(term)?;
+    }
+    Ok(())
+}
+
 /// Names that are these terms, if they are few.
 fn names_of(alloc: Global, terms: &[(&[u8], bool)]) -> Result<Names, NoMemory> {
     let mut names = Names::new(alloc);
     for (bytes, is_literal) in terms {
-        let term = if *is_literal {
-            Term::Plain(text(alloc, bytes)?)
-        } else {
-            iri(alloc, bytes)?
-        };
-        if names.len() < 1000 {
-            names.intern(term)?;
-        }
+        intern(&mut names, literal_or_iri(alloc, bytes, *is_literal)?)?;
     }
     Ok(names)
 }
@@ -145,40 +160,81 @@ fn are_patterns(patterns: &[Pattern], shapes: &[Shape]) -> bool {
     true
 }
 
+/// A function hands the table out, so that no proof looks into it.
+fn cases() -> &'static [Case] {
+    &CASES
+}
+
+/// The patterns of a key file, whose terms become names where they are none.
+fn compiled(
+    rt: &impl Abort,
+    alloc: Global,
+    text: &[u8],
+    names: &mut Names,
+) -> Result<Vec<Pattern>, Fail> {
+    let keys = read_keys(alloc, text, 1 << 20)?;
+    assert!(rt; names.len() < 1000);
+    let _ = keys.keys();
+    Ok(compile(alloc, &keys, names)?)
+}
+
 #[test]
 fn keys_are_compiled_to_patterns(rt: HostRuntime) -> Result<(), Fail> {
-    let alloc = rt.alloc();
-    for case in &CASES {
-        let keys = read_keys(alloc, case.keys, 1 << 20)?;
-        let mut names = names_of(alloc, case.known)?;
-        assert!(rt; names.len() < 1000);
+    for case in cases() {
+        let mut names = names_of(rt.alloc(), case.known)?;
         assert!(rt; names.len() as usize == case.known.len(), "{}", case.about);
-        let _ = keys.keys();
-        let patterns = compile(alloc, &keys, &mut names)?;
+        let patterns = compiled(&rt, rt.alloc(), case.keys, &mut names)?;
         assert!(rt; names.len() == case.names, "{}", case.about);
         assert!(rt; are_patterns(&patterns, case.patterns), "{}", case.about);
     }
     Ok(())
 }
 
+/// An entity variable with its type.
+fn entity(alloc: Global, variable: &[u8], of_type: &[u8]) -> Result<KeySlot, NoMemory>
+    ensures { IfOk result (λ s. (x : List ℕ) × (type : Term) × (s ≡ Entity x type)) }
+{
+    let name = text(alloc, variable)?;
+    let of_type = iri(alloc, of_type)?;
+    Ok(KeySlot::Entity(name, of_type))
+}
+
+/// A value variable.
+fn value(alloc: Global, variable: &[u8]) -> Result<KeySlot, NoMemory>
+    ensures { IfOk result (λ s. s ≡ Value variable.now) }
+{
+    Ok(KeySlot::Value(Text::from_bytes(alloc, variable)?))
+}
+
+/// `?x` with its type, `$n` and `$c`
+fn base_slots(alloc: Global) -> Result<Vec<KeySlot>, NoMemory>
+    ensures { IfOk result (λ v. (x : List ℕ) × (type : Term) × (v.items ≡ Entity x type ∷ Value (110 ∷ []) ∷ Value (99 ∷ []) ∷ [])) }
+{
+    let slots = vec![in alloc;
+        entity(alloc, b"x", b"urn:T")?,
+        value(alloc, b"n")?,
+        value(alloc, b"c")?,
+    ]?;
+    Ok(slots)
+}
+
+/// An edge from `?x` to a slot.
+fn base_edge(alloc: Global, pred: &[u8], to: u8) -> Result<KeyEdge, NoMemory>
+    ensures { IfOk result (λ e. (e.from ≡ 0) × (e.to ≡ to)) }
+{
+    Ok(KeyEdge {
+        from: 0,
+        pred: iri(alloc, pred)?,
+        to,
+    })
+}
+
 /// `key base <urn:T>`, `value $n`, `value $c`, `?x <urn:name> $n`, `?x <urn:code> $c`, `end`
 fn base(alloc: Global) -> Result<KeyDef, NoMemory> {
-    let slots = vec![in alloc;
-        KeySlot::Entity(text(alloc, b"x")?, iri(alloc, b"urn:T")?),
-        KeySlot::Value(Text::from_bytes(alloc, b"n")?),
-        KeySlot::Value(Text::from_bytes(alloc, b"c")?),
-    ]?;
+    let slots = base_slots(alloc)?;
     let edges = vec![in alloc;
-        KeyEdge {
-            from: 0,
-            pred: iri(alloc, b"urn:name")?,
-            to: 1
-        },
-        KeyEdge {
-            from: 0,
-            pred: iri(alloc, b"urn:code")?,
-            to: 2
-        },
+        base_edge(alloc, b"urn:name", 1)?,
+        base_edge(alloc, b"urn:code", 2)?,
     ]?;
     Ok(KeyDef::new(text(alloc, b"base")?, slots, edges))
 }
@@ -192,14 +248,27 @@ fn add(keys: &mut KeyFile, key: KeyDef) -> Result<bool, NoMemory> {
     Ok(true)
 }
 
+/// The same with the key `base`.
+fn add_base(alloc: Global, keys: &mut KeyFile) -> Result<bool, NoMemory> {
+    add(keys, base(alloc)?)
+}
+
 #[test]
 fn a_file_has_each_name_once(rt: HostRuntime) -> Result<(), Fail> {
     let alloc = rt.alloc();
     assert!(rt; KeyFile::new(alloc).is_empty());
     let mut keys = read_keys(alloc, ALBUM_KEY, 1 << 20)?;
-    assert!(rt; add(&mut keys, base(alloc)?)?);
-    assert!(rt; !add(&mut keys, base(alloc)?)?);
+    assert!(rt; add_base(alloc, &mut keys)?);
+    assert!(rt; !add_base(alloc, &mut keys)?);
     assert!(rt; keys.len() == 2 && !keys.is_empty());
+    Ok(())
+}
+
+#[test]
+fn a_file_has_the_names_of_its_keys_alone(rt: HostRuntime) -> Result<(), Fail> {
+    let mut keys = read_keys(rt.alloc(), ALBUM_KEY, 1 << 20)?;
+    assert!(rt; add_base(rt.alloc(), &mut keys)?);
+    assert!(rt; !add_base(rt.alloc(), &mut keys)?);
     assert!(rt; keys.has_name(b"album_year") && keys.has_name(b"base"));
     assert!(rt; !keys.has_name(b"album"));
     Ok(())
@@ -272,16 +341,26 @@ fn a_slot_is_used_at_either_end(rt: HostRuntime) -> Result<(), Fail> {
     Ok(())
 }
 
+/// Two keys have the same slots and the same edges.
+fn expect_same_parts(rt: &impl Abort, key: &KeyDef, same: &KeyDef) {
+    assert!(rt; key.slots.as_slice() == same.slots.as_slice());
+    assert!(rt; key.edges.as_slice() == same.edges.as_slice());
+}
+
+/// A key has five slots and four edges, of which two each differ.
+fn expect_other_parts(rt: &impl Abort, key: &KeyDef) {
+    assert!(rt; key.slots.len() == 5 && key.slots[2] != key.slots[3]);
+    assert!(rt; key.edges.len() == 4 && key.edges[0] != key.edges[3]);
+}
+
 #[test]
 fn slots_and_edges_are_compared_by_their_parts(rt: HostRuntime) -> Result<(), Fail> {
     let keys = read_keys(rt.alloc(), EVERY, 1 << 20)?;
     let again = read_keys(rt.alloc(), EVERY, 1 << 20)?;
     assert!(rt; keys.len() == 1 && again.len() == 1);
     for (key, same) in keys.keys().iter().zip(again.keys()) {
-        assert!(rt; key.slots.as_slice() == same.slots.as_slice());
-        assert!(rt; key.edges.as_slice() == same.edges.as_slice());
-        assert!(rt; key.slots.len() == 5 && key.slots[2] != key.slots[3]);
-        assert!(rt; key.edges.len() == 4 && key.edges[0] != key.edges[3]);
+        expect_same_parts(&rt, key, same);
+        expect_other_parts(&rt, key);
     }
     Ok(())
 }

@@ -6,6 +6,7 @@ use gk_base::{Limits, NoMemory, ReadStop, Term, Text};
 use merge_graph::{MergedText, merge};
 use nt_reader::Reader;
 use std::alloc::Global;
+use std::process::Abort;
 use std::test::Fail;
 use term_list::Triples;
 use term_table::Names;
@@ -95,6 +96,11 @@ _:b0 <urn:p> \"1\" .
     },
 ];
 
+/// A function hands the table out, so that no proof looks into it.
+fn cases() -> &'static [Merging] {
+    &MERGED
+}
+
 /// The triples of a graph.
 fn read(alloc: Global, graph: &[u8]) -> Result<Triples, ReadStop> {
     let mut reader = Reader::new(alloc, &Limits::STANDARD);
@@ -132,18 +138,32 @@ fn are_within(rows: &[[u32; 3]], count: u32) -> bool
     true
 }
 
+/// The names of a graph, and the numbers of its triples.
+fn names_and_rows(
+    rt: &impl Abort,
+    alloc: Global,
+    graph: &[u8],
+) -> Result<(Names, Vec<[u32; 3]>), NoMemory> {
+    let triples = read(alloc, graph).expect(rt, "the graph is good");
+    assert!(rt; triples.terms().len() < 1000);
+    let mut names = Names::new(alloc);
+    let numbers = names.intern_all(triples.terms())?;
+    let rows = in_rows(alloc, &numbers)?;
+    Ok((names, rows))
+}
+
+/// The merged graph of a case.
+fn merged(rt: &impl Abort, alloc: Global, case: &Merging) -> Result<MergedText, NoMemory> {
+    let (names, rows) = names_and_rows(rt, alloc, case.graph)?;
+    assert_eq!(rt; names.len() as usize, case.labels.len());
+    assert!(rt; are_within(&rows, names.len()));
+    merge(alloc, &names, &rows, case.labels)
+}
+
 #[test]
 fn each_name_stands_as_the_first_of_its_class(rt: HostRuntime) -> Result<(), Fail> {
-    let alloc = rt.alloc();
-    'cases: for case in &MERGED {
-        let triples = read(alloc, case.graph).expect(&rt, "the graph is good");
-        assert!(rt; triples.terms().len() < 1000);
-        let mut names = Names::new(alloc);
-        let numbers = names.intern_all(triples.terms())?;
-        let rows = in_rows(alloc, &numbers)?;
-        assert_eq!(rt; names.len() as usize, case.labels.len());
-        assert!(rt; are_within(&rows, names.len()));
-        let merged = merge(alloc, &names, &rows, case.labels)?;
+    for case in cases() {
+        let merged = merged(&rt, rt.alloc(), case)?;
         assert_eq!(rt; merged.bytes(), case.merged.as_bytes());
         assert_eq!(rt; merged.into_vec().as_slice(), case.merged.as_bytes());
     }

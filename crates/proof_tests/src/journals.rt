@@ -4,6 +4,7 @@ use chase_laws::{Entry, Places};
 use gk_base::NoMemory;
 use proof_graph::supports::support;
 use std::alloc::Global;
+use std::process::Abort;
 use std::test::Fail;
 
 /// The two names of each entry of a journal, how many entries count, two names, and the places of the entries that lead from
@@ -47,21 +48,34 @@ fn journal(alloc: Global, ends: &[(u32, u32)]) -> Result<Vec<Entry>, NoMemory> {
     Ok(journal)
 }
 
+/// The places of the entries that lead from the one name to the other, among so many entries of a journal with these names.
+fn led(
+    rt: &impl Abort,
+    alloc: Global,
+    ends: &[(u32, u32)],
+    upto: u32,
+    a: u32,
+    b: u32,
+) -> Result<Option<Vec<u32>>, NoMemory> {
+    let journal = journal(alloc, ends)?;
+    assert!(rt; upto as usize <= journal.len());
+    support(alloc, &journal, upto, a, b)
+}
+
 #[test]
 fn entries_lead_from_name_to_name(rt: HostRuntime) -> Result<(), Fail> {
     for (ends, upto, a, b, places) in &LEADS {
-        let journal = journal(rt.alloc(), ends)?;
-        assert!(rt; *upto as usize <= journal.len());
-        let found = support(rt.alloc(), &journal, *upto, *a, *b)?.ok_or("apart")?;
+        let found = led(&rt, rt.alloc(), ends, *upto, *a, *b)?.ok_or("apart")?;
         assert!(rt; found.as_slice() == *places, "{ends:?}: {found:?}");
     }
+    Ok(())
+}
+
+#[test]
+fn entries_do_not_lead_to_names_apart(rt: HostRuntime) -> Result<(), Fail> {
     for (ends, upto, a, b) in &APART {
-        let journal = journal(rt.alloc(), ends)?;
-        assert!(rt; *upto as usize <= journal.len());
-        assert!(rt;
-            support(rt.alloc(), &journal, *upto, *a, *b)?.is_none(),
-            "{ends:?}"
-        );
+        let found = led(&rt, rt.alloc(), ends, *upto, *a, *b)?;
+        assert!(rt; found.is_none(), "{ends:?}");
     }
     Ok(())
 }

@@ -49,6 +49,10 @@ fn a_proof_file_comes_last(rt: HostRuntime) {
         };
         assert!(rt; holds(&rt, &case), "row {row}");
     }
+}
+
+#[test]
+fn a_proof_file_that_ends_early_or_is_too_long_is_refused(rt: HostRuntime) {
     let early = Case {
         words: CONVERT,
         ..refused(b"gkey-proof 1\n", "proof:1: proof ends early\n")
@@ -78,11 +82,20 @@ fn unread<'a>(words: &'a [&'a str], reads: &'a [u64]) -> Case<'a> {
 }
 
 #[test]
-fn a_proof_file_that_can_not_be_read_is_named(rt: HostRuntime) {
+fn a_proof_file_that_a_check_can_not_read_is_named(rt: HostRuntime) {
     for call in 7u64..10 {
         assert!(rt; holds(&rt, &unread(CHECK, &[call])), "call {call}");
     }
     assert!(rt; holds(&rt, &unread(&["check", "g", "k", "none"], &[])));
+    let last = Case {
+        reads: &[10],
+        ..checked()
+    };
+    assert!(rt; holds(&rt, &last));
+}
+
+#[test]
+fn a_proof_file_that_can_not_be_read_to_convert_it_is_named(rt: HostRuntime) {
     for call in 1u64..4 {
         assert!(rt; holds(&rt, &unread(CONVERT, &[call])), "call {call}");
     }
@@ -95,9 +108,4 @@ fn a_proof_file_that_can_not_be_read_is_named(rt: HostRuntime) {
     };
     assert!(rt; holds(&rt, &converted));
     assert!(rt; holds(&rt, &unread(&["convert", "none"], &[])));
-    let last = Case {
-        reads: &[10],
-        ..checked()
-    };
-    assert!(rt; holds(&rt, &last));
 }

@@ -1,5 +1,7 @@
 //! Runs over files in memory, the two albums above all: limits, devices that fail, and demos.
 
+ghost use Rattle.std.specs.Prelude.{◌<◌};
+
 use crate::texts::{album_key, albums};
 use fixtures::texts::{ALBUM_KEY, ALBUMS, ONE_VALUE, TWO_VALUES};
 use gk_base::{Limits, NoMemory, Text};
@@ -99,10 +101,16 @@ pub fn words_of(alloc: Global, words: &[&str]) -> Result<Vec<Text>, NoMemory> {
     Ok(made)
 }
 
-/// A file with its name.
-fn file(alloc: Global, name: &str, content: &[u8]) -> Result<(Text, Vec<u8>), NoMemory> {
+/// Adds a file with its name.
+fn add_file(
+    alloc: Global,
+    files: &mut Vec<(Text, Vec<u8>)>,
+    name: &str,
+    content: &[u8],
+) -> Result<(), NoMemory> {
     let name = Text::from_bytes(alloc, name.as_bytes())?;
-    Ok((name, Vec::from_slice(alloc, content)?))
+    files.push((name, Vec::from_slice(alloc, content)?))?;
+    Ok(())
 }
 
 /// The files `g`, `k` and `p` of a run.
@@ -113,38 +121,68 @@ pub fn files_of(
     proof: &[u8],
 ) -> Result<Vec<(Text, Vec<u8>)>, NoMemory> {
     let mut files = Vec::new(alloc);
-    files.push(file(alloc, "g", graph)?)?;
-    files.push(file(alloc, "k", keys)?)?;
-    files.push(file(alloc, "p", proof)?)?;
+    add_file(alloc, &mut files, "g", graph)?;
+    add_file(alloc, &mut files, "k", keys)?;
+    add_file(alloc, &mut files, "p", proof)?;
     Ok(files)
 }
 
 /// What a test ends with where there is no memory for it.
 pub const ENOUGH: &str = "enough memory";
 
-/// Whether the run leaves what it must.
-pub fn holds<R: AllocGlobal + Threads + Wait + Sync + Abort>(rt: &R, case: &Case<'_>) -> bool {
+/// The shelf of a case.
+fn shelf_of(alloc: Global, case: &Case<'_>) -> Result<MemShelf, NoMemory>
+    requires { 0 < case.now.most }
+{
+    let files = files_of(alloc, case.graph, case.keys, case.proof)?;
+    Ok(MemShelf::new(files, case.most, case.reads.to_vec(alloc)?))
+}
+
+/// The output of a case.
+fn output_of(alloc: Global, case: &Case<'_>) -> Result<MemSink, NoMemory>
+    requires { 0 < case.now.most }
+{
+    MemSink::new(alloc, case.most, 1000, case.writes.to_vec(alloc)?)
+}
+
+/// The status of a case's run over these devices; none where a limit is beyond that of the program.
+fn status_over<R: AllocGlobal + Threads + Wait + Sync + Abort>(
+    rt: &R,
+    case: &Case<'_>,
+    shelf: &mut MemShelf,
+    out: &mut MemSink,
+    err: &mut MemSink,
+) -> Option<u8> {
     let limits = case.limits;
     let standard = Limits::STANDARD;
     let within = limits.bytes <= standard.bytes
         && limits.key_bytes <= standard.key_bytes
         && limits.triples <= standard.triples
         && limits.pairs <= standard.pairs;
-    if case.most == 0 || !within {
-        return false;
+    if !within {
+        return None;
     }
     let alloc = rt.alloc();
     let words = words_of(alloc, case.words).expect(rt, ENOUGH);
-    let files = files_of(alloc, case.graph, case.keys, case.proof).expect(rt, ENOUGH);
-    let reads = case.reads.to_vec(alloc).expect(rt, ENOUGH);
-    let writes = case.writes.to_vec(alloc).expect(rt, ENOUGH);
-    let mut shelf = MemShelf::new(files, case.most, reads);
-    let mut out = MemSink::new(alloc, case.most, 1000, writes).expect(rt, ENOUGH);
+    Some(run_gated(rt, alloc, &words, shelf, out, err, &limits, &OpenGate))
+}
+
+/// Whether this is what the run of a case must leave.
+fn is_left(case: &Case<'_>, status: Option<u8>, out: &[u8], err: &[u8]) -> bool {
+    status == Some(case.status) && out == case.out && err == case.err.as_bytes()
+}
+
+/// Whether the run leaves what it must.
+pub fn holds<R: AllocGlobal + Threads + Wait + Sync + Abort>(rt: &R, case: &Case<'_>) -> bool {
+    if case.most == 0 {
+        return false;
+    }
+    let alloc = rt.alloc();
+    let mut shelf = shelf_of(alloc, case).expect(rt, ENOUGH);
+    let mut out = output_of(alloc, case).expect(rt, ENOUGH);
     let mut err = MemSink::new(alloc, 1000, 1000, Vec::new(alloc)).expect(rt, ENOUGH);
-    let status = run_gated(
-        rt, alloc, &words, &mut shelf, &mut out, &mut err, &limits, &OpenGate,
-    );
-    status == case.status && out.bytes() == case.out && err.bytes() == case.err.as_bytes()
+    let status = status_over(rt, case, &mut shelf, &mut out, &mut err);
+    is_left(case, status, out.bytes(), err.bytes())
 }
 
 /// Graphs with keys, and what is printed.
@@ -364,15 +402,24 @@ fn demos_print_their_counts(rt: HostRuntime) {
     }
 }
 
+/// The status of a match of the albums over a shelf that does not fail.
+fn status_of_albums<R: AllocGlobal + Threads + Wait + Sync + Abort>(
+    rt: &R,
+    out: &mut SureSink,
+    err: &mut SureSink,
+) -> u8 {
+    let alloc = rt.alloc();
+    let words = words_of(alloc, good().words).expect(rt, ENOUGH);
+    let files = files_of(alloc, albums(), album_key(), b"").expect(rt, ENOUGH);
+    let mut shelf = SureShelf::new(files);
+    run(rt, alloc, &words, &mut shelf, out, err)
+}
+
 #[test]
 fn albums_match_over_devices_that_do_not_fail(rt: HostRuntime) {
-    let alloc = rt.alloc();
-    let words = words_of(alloc, good().words).expect(&rt, ENOUGH);
-    let files = files_of(alloc, albums(), album_key(), b"").expect(&rt, ENOUGH);
-    let mut shelf = SureShelf::new(files);
-    let mut out = SureSink::new(alloc, 100).expect(&rt, ENOUGH);
-    let mut err = SureSink::new(alloc, 100).expect(&rt, ENOUGH);
-    let status = run(&rt, alloc, &words, &mut shelf, &mut out, &mut err);
+    let mut out = SureSink::new(rt.alloc(), 100).expect(&rt, ENOUGH);
+    let mut err = SureSink::new(rt.alloc(), 100).expect(&rt, ENOUGH);
+    let status = status_of_albums(&rt, &mut out, &mut err);
     assert_eq!(rt; status, 0);
     assert_eq!(rt; out.bytes(), b"<urn:al1> <urn:al2>\n".as_slice());
     assert!(rt; err.bytes().is_empty());

@@ -116,6 +116,11 @@ fn is_narrow(text: &[u8]) -> bool {
     true
 }
 
+/// Whether a text has narrow lines, and begins and ends so.
+fn is_help(text: &[u8], first: &[u8], last: &[u8]) -> bool {
+    text.starts_with(first) && text.ends_with(last) && is_narrow(text)
+}
+
 /// Whether help is a text of narrow lines that begins and ends so, over a shelf whose calls with these numbers fail.
 fn helps<R: AllocGlobal + Threads + Wait + Sync + Abort>(
     rt: &R,
@@ -130,12 +135,7 @@ fn helps<R: AllocGlobal + Threads + Wait + Sync + Abort>(
     let mut out = SureSink::new(alloc, 10_000).expect(rt, ENOUGH);
     let mut err = SureSink::new(alloc, 100).expect(rt, ENOUGH);
     let status = run(rt, alloc, &words, &mut shelf, &mut out, &mut err);
-    let text = out.bytes();
-    status == 0
-        && err.bytes().is_empty()
-        && text.starts_with(first)
-        && text.ends_with(last)
-        && is_narrow(text)
+    status == 0 && err.bytes().is_empty() && is_help(out.bytes(), first, last)
 }
 
 /// The first line of help.

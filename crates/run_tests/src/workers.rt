@@ -15,6 +15,29 @@ use std::sync::atomic::Ordering;
 use std::thread::Threads;
 use steal_pool::{Gate, OpenGate};
 
+/// The status of a run over these devices with this gate.
+fn status_over<R: AllocGlobal + Threads + Wait + Sync + Abort, G: Gate>(
+    rt: &R,
+    words: &[&str],
+    shelf: &mut SureShelf,
+    out: &mut SureSink,
+    err: &mut SureSink,
+    gate: &G,
+) -> u8 {
+    let alloc = rt.alloc();
+    let words = words_of(alloc, words).expect(rt, ENOUGH);
+    run_gated(rt, alloc, &words, shelf, out, err, &Limits::STANDARD, gate)
+}
+
+/// The output of a run that ends with 0 and no error text.
+fn text_of<R: AllocGlobal + Abort>(rt: &R, status: u8, out: &[u8], err: &[u8]) -> Option<Vec<u8>> {
+    if status == 0 && err.is_empty() {
+        Some(out.to_vec(rt.alloc()).expect(rt, ENOUGH))
+    } else {
+        None
+    }
+}
+
 /// What a run over the files `g`, `k` and `p` with this gate writes to the output, where it ends with 0 and no error text.
 fn printed<R: AllocGlobal + Threads + Wait + Sync + Abort, G: Gate>(
     rt: &R,
@@ -25,25 +48,11 @@ fn printed<R: AllocGlobal + Threads + Wait + Sync + Abort, G: Gate>(
     gate: &G,
 ) -> Option<Vec<u8>> {
     let alloc = rt.alloc();
-    let words = words_of(alloc, words).expect(rt, ENOUGH);
     let mut shelf = SureShelf::new(files_of(alloc, graph, keys, proof).expect(rt, ENOUGH));
     let mut out = SureSink::new(alloc, 10_000).expect(rt, ENOUGH);
     let mut err = SureSink::new(alloc, 100).expect(rt, ENOUGH);
-    let status = run_gated(
-        rt,
-        alloc,
-        &words,
-        &mut shelf,
-        &mut out,
-        &mut err,
-        &Limits::STANDARD,
-        gate,
-    );
-    if status == 0 && err.bytes().is_empty() {
-        Some(out.bytes().to_vec(alloc).expect(rt, ENOUGH))
-    } else {
-        None
-    }
+    let status = status_over(rt, words, &mut shelf, &mut out, &mut err, gate);
+    text_of(rt, status, out.bytes(), err.bytes())
 }
 
 /// Whether a run that no gate holds up prints this.

@@ -2,6 +2,7 @@ use crate::sample::Sample;
 use gk_base::{NoMemory, Term, Text};
 use std::alloc::Global;
 use std::hash::{FoldHasher, Hasher};
+use std::process::Abort;
 use term_list::{TermRef, Terms};
 use term_table::Names;
 
@@ -26,6 +27,13 @@ fn numbers_of(names: &mut Names, terms: &Terms) -> Result<Option<Vec<u32>>, NoMe
     } else {
         Ok(None)
     }
+}
+
+/// The same in a test, which ends where there are none.
+fn numbered<R: Abort>(rt: &R, names: &mut Names, terms: &Terms) -> Vec<u32> {
+    numbers_of(names, terms)
+        .expect(rt, "enough memory")
+        .expect(rt, "many names")
 }
 
 /// Whether this number was found.
@@ -71,6 +79,12 @@ fn a_repeated_term_keeps_its_number(rt: HostRuntime) {
     }
     assert!(rt; names.len() == 2);
     assert!(rt; REPEATED[1].0.is(&names.term(1)));
+}
+
+#[test]
+fn a_term_is_found_only_where_it_is_the_same(rt: HostRuntime) {
+    let mut names = Names::new(rt.alloc());
+    intern_rows(rt.alloc(), &mut names, &REPEATED).expect(&rt, "enough memory");
     for (sample, place) in &FOUND {
         assert!(rt; names.find(&sample.made(&rt)) == *place);
     }
@@ -96,19 +110,22 @@ fn list_of(alloc: Global, samples: &[Sample]) -> Result<Terms, NoMemory> {
     Ok(terms)
 }
 
+/// The names of the first two terms.
+fn first_names<R: AllocGlobal + Abort>(rt: &R) -> Names {
+    let mut names = Names::new(rt.alloc());
+    for sample in &FIRST {
+        number_of(&mut names, sample.made(rt))
+            .expect(rt, "enough memory")
+            .expect(rt, "many names");
+    }
+    names
+}
+
 #[test]
 fn terms_together_get_the_numbers_that_they_get_one_by_one(rt: HostRuntime) {
-    let alloc = rt.alloc();
-    let mut names = Names::new(alloc);
-    for sample in &FIRST {
-        number_of(&mut names, sample.made(&rt))
-            .expect(&rt, "enough memory")
-            .expect(&rt, "many names");
-    }
-    let terms = list_of(alloc, &TOGETHER).expect(&rt, "enough memory");
-    let numbers = numbers_of(&mut names, &terms)
-        .expect(&rt, "enough memory")
-        .expect(&rt, "many names");
+    let mut names = first_names(&rt);
+    let terms = list_of(rt.alloc(), &TOGETHER).expect(&rt, "enough memory");
+    let numbers = numbered(&rt, &mut names, &terms);
     assert!(rt; numbers.as_slice() == [2, 0, 2, 3, 1].as_slice());
     assert!(rt; names.len() == 4);
 }
@@ -175,18 +192,21 @@ fn are_found(alloc: Global, names: &Names, samples: &[Sample]) -> Result<bool, N
     Ok(true)
 }
 
+/// The crowd is told apart: its terms, which are also in this list, get their places as their numbers.
+fn expect_apart<R: AllocGlobal + Abort>(rt: &R, names: &mut Names, terms: &Terms) {
+    assert!(rt; are_new(rt.alloc(), names, crowd()).expect(rt, "enough memory"));
+    let numbers = numbered(rt, names, terms);
+    assert!(rt; numbers.len() == 6 && count_up(&numbers));
+    assert!(rt; are_found(rt.alloc(), names, crowd()).expect(rt, "enough memory"));
+}
+
 #[test]
 fn terms_whose_hashes_crowd_are_told_apart(rt: HostRuntime) {
     let alloc = rt.alloc();
     assert!(rt; crowds());
     let terms = list_of(alloc, crowd()).expect(&rt, "enough memory");
     for mut names in [Names::new(alloc), Names::with_seed(alloc, 7)] {
-        assert!(rt; are_new(alloc, &mut names, crowd()).expect(&rt, "enough memory"));
-        let numbers = numbers_of(&mut names, &terms)
-            .expect(&rt, "enough memory")
-            .expect(&rt, "many names");
-        assert!(rt; numbers.len() == 6 && count_up(&numbers));
-        assert!(rt; are_found(alloc, &names, crowd()).expect(&rt, "enough memory"));
+        expect_apart(&rt, &mut names, &terms);
     }
 }
 
@@ -224,6 +244,16 @@ fn are_digits_found(alloc: Global, names: &Names, count: u32) -> Result<bool, No
     Ok(true)
 }
 
+/// The digits of the numbers below 1400 are found to have those numbers, and those of 1400 are not found.
+fn expect_digits<R: AllocGlobal + Abort>(rt: &R, names: &Names) {
+    assert!(rt; are_digits_found(rt.alloc(), names, 1400).expect(rt, "enough memory"));
+    assert!(rt;
+        names
+            .find(&digits(rt.alloc(), 1400).expect(rt, "enough memory"))
+            .is_none()
+    );
+}
+
 #[test]
 fn many_names_are_numbered_in_order_and_found(rt: HostRuntime) {
     let alloc = rt.alloc();
@@ -231,16 +261,9 @@ fn many_names_are_numbered_in_order_and_found(rt: HostRuntime) {
     names.expect(100);
     assert!(rt; are_numbered(alloc, &mut names, 700).expect(&rt, "enough memory"));
     let terms = digits_below(alloc, 1400).expect(&rt, "enough memory");
-    let numbers = numbers_of(&mut names, &terms)
-        .expect(&rt, "enough memory")
-        .expect(&rt, "many names");
+    let numbers = numbered(&rt, &mut names, &terms);
     assert!(rt; numbers.len() == 1400 && names.len() == 1400 && count_up(&numbers));
-    assert!(rt; are_digits_found(alloc, &names, 1400).expect(&rt, "enough memory"));
-    assert!(rt;
-        names
-            .find(&digits(alloc, 1400).expect(&rt, "enough memory"))
-            .is_none()
-    );
+    expect_digits(&rt, &names);
 }
 
 /// Each sample beside the number of the first that is alike to it.
@@ -276,6 +299,11 @@ fn intern_rows(alloc: Global, names: &mut Names, rows: &[(Sample, u32)]) -> Resu
     Ok(())
 }
 
+/// For each name the number of the first that is alike to it.
+fn alike_numbers(names: &Names) -> Result<Vec<u32>, NoMemory> {
+    names.alike()
+}
+
 /// Whether these are the numbers of the rows.
 fn are_numbers(numbers: &[u32], rows: &[(Sample, u32)]) -> bool {
     if numbers.len() != rows.len() {
@@ -294,6 +322,6 @@ fn literals_are_alike_by_kind_datatype_tag_and_folded_form(rt: HostRuntime) {
     let alloc = rt.alloc();
     let mut names = Names::new(alloc);
     intern_rows(alloc, &mut names, alike_terms()).expect(&rt, "enough memory");
-    let numbers = names.alike().expect(&rt, "enough memory");
+    let numbers = alike_numbers(&names).expect(&rt, "enough memory");
     assert!(rt; are_numbers(&numbers, alike_terms()));
 }

@@ -1,7 +1,8 @@
 use crate::sample::Sample;
-use gk_base::Triple;
+use gk_base::{Term, Triple};
+use std::process::Abort;
 use term_table::Names;
-use term_text::{put_term, put_triple, report};
+use term_text::{Report, put_term, put_triple, report};
 
 /// Terms, and how they are appended to a buffer that holds a plus sign.
 static WRITTEN: [(Sample, &[u8]); 7] = [
@@ -20,25 +21,34 @@ static WRITTEN: [(Sample, &[u8]); 7] = [
     (Sample::Lang(b"x", b"en-us"), b"+\"x\"@en-us"),
 ];
 
+/// A plus sign, and the term after it.
+fn written<R: AllocGlobal + Abort>(rt: &R, term: &Term) -> Vec<u8> {
+    let mut buf = b"+".to_vec(rt.alloc()).expect(rt, "enough memory");
+    put_term(&mut buf, term).expect(rt, "enough memory");
+    buf
+}
+
 #[test]
 fn terms_are_written_canonically(rt: HostRuntime) {
-    let alloc = rt.alloc();
     for (sample, text) in &WRITTEN {
-        let mut buf = b"+".to_vec(alloc).expect(&rt, "enough memory");
-        put_term(&mut buf, &sample.made(&rt)).expect(&rt, "enough memory");
+        let buf = written(&rt, &sample.made(&rt));
         assert_eq!(rt; buf.as_slice(), *text);
+    }
+}
+
+/// A triple with a literal.
+fn triple<R: AllocGlobal + Abort>(rt: &R) -> Triple {
+    Triple {
+        subject: Sample::Iri(b"urn:a").made(rt),
+        predicate: Sample::Iri(b"urn:p").made(rt),
+        object: Sample::Plain(b"1").made(rt),
     }
 }
 
 #[test]
 fn a_triple_is_a_line(rt: HostRuntime) {
-    let alloc = rt.alloc();
-    let triple = Triple {
-        subject: Sample::Iri(b"urn:a").made(&rt),
-        predicate: Sample::Iri(b"urn:p").made(&rt),
-        object: Sample::Plain(b"1").made(&rt),
-    };
-    let mut buf = Vec::new(alloc);
+    let triple = triple(&rt);
+    let mut buf = Vec::new(rt.alloc());
     put_triple(&mut buf, &triple).expect(&rt, "enough memory");
     assert_eq!(rt; buf.as_slice(), b"<urn:a> <urn:p> \"1\" .\n".as_slice());
 }
@@ -64,18 +74,38 @@ static REPORTS: [([u32; 4], &str); 6] = [
     ([5, 1, 1, 9], "_::x _:b.1\n"),
 ];
 
-#[test]
-fn the_report_prints_shared_labels_by_text(rt: HostRuntime) {
-    let alloc = rt.alloc();
-    let mut names = Names::new(alloc);
+/// A function hands the table out, so that no proof looks into it.
+fn reports() -> &'static [([u32; 4], &'static str)] {
+    &REPORTS
+}
+
+/// The four names.
+fn four_names<R: AllocGlobal + Abort>(rt: &R) -> Names {
+    let mut names = Names::new(rt.alloc());
     for sample in &NAMES {
         assert!(rt; names.len() < 4);
-        names.intern(sample.made(&rt)).expect(&rt, "enough memory");
+        names.intern(sample.made(rt)).expect(rt, "enough memory");
     }
+    names
+}
+
+/// The report of names with these labels. It promises nothing, so that the proof of the test has little to carry.
+fn reported<R: AllocGlobal + Abort>(rt: &R, names: &Names, labels: &[u32]) -> Report {
+    assert_eq!(rt; names.len() as usize, labels.len());
+    report(rt.alloc(), names, labels).expect(rt, "enough memory")
+}
+
+/// The report has this text, lent and given away.
+fn expect_text(rt: &impl Abort, printed: Report, labels: &[u32; 4], expected: &str) {
+    assert_eq!(rt; printed.bytes(), expected.as_bytes(), "at {labels:?}");
+    assert_eq!(rt; printed.into_vec().as_slice(), expected.as_bytes());
+}
+
+#[test]
+fn the_report_prints_shared_labels_by_text(rt: HostRuntime) {
+    let names = four_names(&rt);
     assert_eq!(rt; names.len(), 4);
-    for (labels, expected) in &REPORTS {
-        let printed = report(alloc, &names, labels).expect(&rt, "enough memory");
-        assert_eq!(rt; printed.bytes(), expected.as_bytes(), "at {labels:?}");
-        assert_eq!(rt; printed.into_vec().as_slice(), expected.as_bytes());
+    for (labels, expected) in reports() {
+        expect_text(&rt, reported(&rt, &names, labels), labels, expected);
     }
 }

@@ -1,7 +1,7 @@
 ghost use Rattle.std.specs.Prelude.{◌+◌, ◌<◌, ◌^◌};
 
 use crate::sample::Sample;
-use gk_base::{LexFault, LexStop, Limits, NoMemory, ReadFault, ReadRefusal, ReadStop};
+use gk_base::{LexFault, LexStop, Limits, NoMemory, ReadFault, ReadRefusal, ReadStop, Triple};
 use nt_reader::{Reader, read_line};
 use std::alloc::{AllocError, Global};
 use term_list::{TermRef, Terms, Triples};
@@ -67,12 +67,25 @@ fn are_rows(terms: &Terms, rows: &[Row]) -> bool {
     terms.len() == at
 }
 
-fn line_says(alloc: Global, line: &[u8], says: &Says) -> bool {
-    match (read_line(alloc, line), says) {
-        (Ok(None), Says::Nothing) => true,
-        (Ok(Some(triple)), says) => is_object(&TermRef::of(&triple.object), says),
-        (Err(LexStop::Fault(found)), Says::Fault(fault)) => found == *fault,
+/// What the reader of a line answers. It promises nothing, so that the proof of its caller has little to carry.
+fn answer_to_line(alloc: Global, line: &[u8]) -> Result<Option<Triple>, LexStop> {
+    read_line(alloc, line)
+}
+
+/// Whether a line with this fault says so.
+fn is_fault(found: LexFault, says: &Says) -> bool {
+    match says {
+        Says::Fault(fault) => found == *fault,
         _ => false,
+    }
+}
+
+fn line_says(alloc: Global, line: &[u8], says: &Says) -> bool {
+    match answer_to_line(alloc, line) {
+        Ok(Some(triple)) => is_object(&TermRef::of(&triple.object), says),
+        Ok(None) => matches!(says, Says::Nothing),
+        Err(LexStop::Fault(found)) => is_fault(found, says),
+        Err(_) => false,
     }
 }
 
@@ -146,6 +159,13 @@ fn byte_by_byte(alloc: Global, limits: &Limits, text: &[u8]) -> Result<Terms, Re
     ended(alloc, reader)
 }
 
+/// Takes the triples that the reader has, and puts their terms at the end of a list.
+fn take_terms(alloc: Global, reader: &mut Reader, terms: &mut Terms) -> Result<(), NoMemory> {
+    let mut taken = Triples::new(alloc);
+    reader.take_triples(&mut taken);
+    put_terms(terms, &taken)
+}
+
 /// The same, with the triples of each line taken as soon as it has ended.
 fn taken_as_they_come(alloc: Global, limits: &Limits, text: &[u8]) -> Result<Terms, ReadStop>
     requires { limits.now.bytes + 1 < 2 ^ 64 }
@@ -155,9 +175,7 @@ fn taken_as_they_come(alloc: Global, limits: &Limits, text: &[u8]) -> Result<Ter
     'bytes: for b in text {
         let piece = [*b];
         let _ = reader.feed(&piece);
-        let mut taken = Triples::new(alloc);
-        reader.take_triples(&mut taken);
-        put_terms(&mut terms, &taken)?;
+        take_terms(alloc, &mut reader, &mut terms)?;
     }
     put_terms(&mut terms, &reader.finish()?)?;
     Ok(terms)

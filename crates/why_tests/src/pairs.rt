@@ -2,11 +2,14 @@
 
 use crate::supported::are_supported;
 use crate::worked_journals::{ALBUMS, CHAINS, Worked, names};
+use chase_laws::{Entry, Pattern};
 use fixtures::texts::{ALBUM_AND_ARTIST_PROOF, ALBUM_PROOF, NO_STEPS};
+use gk_base::{NoMemory, Text};
 use proof_graph::put_proof;
 use std::alloc::Global;
 use std::test::Fail;
-use why_pair::why;
+use term_table::Names;
+use why_pair::{Why, why};
 
 /// What was answered: the text of a proof, and its goal.
 #[derive(Drop)]
@@ -16,25 +19,51 @@ enum Answer {
     Why(Vec<u8>, Vec<u32>),
 }
 
-fn answered(alloc: Global, of: &Worked, a: u32, b: u32) -> Result<Answer, Fail> {
-    let names = names(alloc)?;
-    let patterns = of.patterns(alloc)?;
-    let key_names = of.key_names(alloc)?;
-    let journal = of.journal(alloc)?;
-    if !are_supported(alloc, &names, &patterns, &journal)? || key_names.len() != patterns.len() {
+/// The text of the proof that was found, and its goal.
+fn told(alloc: Global, found: Why) -> Result<Answer, NoMemory> {
+    let mut text = Vec::new(alloc);
+    put_proof(&mut text, &found.proof)?;
+    Ok(Answer::Why(text, found.goal))
+}
+
+/// What is answered of a journal over these names, with these keys and their names.
+fn answered_of(
+    alloc: Global,
+    journal: &[Entry],
+    names: &Names,
+    patterns: &[Pattern],
+    key_names: &[Text],
+    pair: (u32, u32),
+) -> Result<Answer, NoMemory> {
+    let (a, b) = pair;
+    if !are_supported(alloc, names, patterns, journal)? || key_names.len() != patterns.len() {
         return Ok(Answer::Unfit);
     }
     if a >= names.len() || b >= names.len() {
         return Ok(Answer::Unfit);
     }
-    match why(alloc, &journal, &names, &patterns, &key_names, a, b)? {
-        Some(found) => {
-            let mut text = Vec::new(alloc);
-            put_proof(&mut text, &found.proof)?;
-            Ok(Answer::Why(text, found.goal))
-        }
+    match why(alloc, journal, names, patterns, key_names, a, b)? {
+        Some(found) => told(alloc, found),
         None => Ok(Answer::Apart),
     }
+}
+
+/// The same over the names of both journals, with this journal.
+fn answered_over(
+    alloc: Global,
+    of: &Worked,
+    names: &Names,
+    pair: (u32, u32),
+) -> Result<Answer, Fail> {
+    let patterns = of.patterns(alloc)?;
+    let key_names = of.key_names(alloc)?;
+    let journal = of.journal(alloc)?;
+    Ok(answered_of(alloc, &journal, names, &patterns, &key_names, pair)?)
+}
+
+fn answered(alloc: Global, of: &Worked, a: u32, b: u32) -> Result<Answer, Fail> {
+    let names = names(alloc)?;
+    answered_over(alloc, of, &names, (a, b))
 }
 
 /// The first two steps of the proof of the four albums and their artists, with the terms that they need.
@@ -136,6 +165,11 @@ fn a_pair_has_the_steps_that_it_needs(rt: HostRuntime) -> Result<(), Fail> {
         let has = has_answer(rt.alloc(), &ALBUMS, (*a, *b), goal, text)?;
         assert!(rt; has, "{a} {b}");
     }
+    Ok(())
+}
+
+#[test]
+fn a_pair_may_be_led_through_a_third_name(rt: HostRuntime) -> Result<(), Fail> {
     for (a, b, goal, text) in &CHAIN_PAIRS {
         let has = has_answer(rt.alloc(), &CHAINS, (*a, *b), goal, text)?;
         assert!(rt; has, "{a} {b}");

@@ -93,18 +93,22 @@ impl Worked {
     }
 }
 
+/// Makes a term a name, where the names are few.
+fn intern(names: &mut Names, term: Term) -> Result<(), NoMemory> {
+    if names.len() < 1000 {
+        names.intern(term)?;
+    }
+    Ok(())
+}
+
 /// The names of both journals.
 pub(crate) fn names(alloc: Global) -> Result<Names, NoMemory> {
     let mut names = Names::new(alloc);
     for iri in &IRIS {
-        if names.len() < 1000 {
-            names.intern(Term::Iri(Text::from_bytes(alloc, iri)?))?;
-        }
+        intern(&mut names, Term::Iri(Text::from_bytes(alloc, iri)?))?;
     }
     for value in &VALUES {
-        if names.len() < 1000 {
-            names.intern(Term::Plain(Text::from_bytes(alloc, value)?))?;
-        }
+        intern(&mut names, Term::Plain(Text::from_bytes(alloc, value)?))?;
     }
     Ok(names)
 }
