@@ -43,6 +43,18 @@ value $n
 end
 """
 
+WIDE_KEYS = """key whole <urn:T>
+any _p <urn:P>
+entity ?o <urn:O>
+value $n
+value $t
+?x <urn:name> $n
+?x <urn:has> _p
+_p <urn:tag> $t
+_p <urn:of> ?o
+end
+"""
+
 BIBLIOGRAPHY_KEYS = f"""# Two sources of one bibliography.
 key series_by_issn <{SITE}Series>
 value $i
@@ -263,6 +275,17 @@ def woken(out, pairs, seed=1):
         entity(out, f"b:{i}", f"n{i // 2}", code="c" if i < 2 else None, following=f"b:{i - 2}" if i >= 2 else None)
 
 
+def wide(out, pairs, seed=1, parts=12):
+    """Entities of one name, each with parts of one tag and of makers of their own. So none is another, which is seen once each
+    part of the one has been tried beside each of the other."""
+    for i in range(members(pairs)):
+        entity(out, f"a:{i}", "one")
+        for part in range(parts):
+            thing, maker = f"<urn:p:{i}:{part}>", f"<urn:o:{i}:{part}>"
+            out.write(f"<urn:a:{i}> <urn:has> {thing} .\n{thing} {TYPE} <urn:P> .\n")
+            out.write(f'{thing} <urn:tag> "all" .\n{thing} <urn:of> {maker} .\n{maker} {TYPE} <urn:O> .\n')
+
+
 KINDS = {
     "catalogue": (catalogue, CATALOGUE_KEYS),
     "crowded": (crowded, CATALOGUE_KEYS),
@@ -271,6 +294,7 @@ KINDS = {
     "matched": (matched, CHAIN_KEYS),
     "woken": (woken, CHAIN_KEYS),
     "chain": (chain, CHAIN_KEYS),
+    "wide": (wide, WIDE_KEYS),
 }
 
 

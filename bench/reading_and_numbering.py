@@ -1,10 +1,11 @@
 #!/usr/bin/env python3
 """Times `gkey match` with an empty key file beside `serdi` and `rapper -c` on the same graphs.
 
-Usage: bench/reading_and_numbering.py [MILLIONS ..]   (1 2 4, if none are given)
+Usage: bench/reading_and_numbering.py [--before PROGRAM] [MILLIONS ..]   (1 2 4, if none are given)
 
 It needs Debian's packages serdi and raptor2-utils. The tools run in turn, five times each, and the best run of each
-counts. `serdi` and `rapper` only parse; `gkey` also numbers every term and builds the graph's indexes.
+counts. `serdi` and `rapper` only parse; `gkey` also numbers every term and builds the graph's indexes. With `--before` another
+gkey runs among them.
 """
 
 import pathlib
@@ -12,20 +13,22 @@ import sys
 import tempfile
 
 import graphs
-from timing import PROGRAM, best_in_turn, built
+from timing import best_in_turn, built, programs
 
 COLUMNS = "{:>10} {:>8} {:>10} {:>10} {:>12} {:>10} {:>10}"
 
 
-def tools(graph, keys):
-    yield "gkey", [str(PROGRAM), "match", graph, keys]
+def tools(compared, graph, keys):
+    for name, program in zip(["gkey", "before"], compared):
+        yield name, [str(program), "match", graph, keys]
     yield "serdi", ["serdi", "-i", "ntriples", "-o", "ntriples", graph]
     yield "rapper", ["rapper", "-q", "-c", "-i", "ntriples", graph]
 
 
 def main():
+    compared, words = programs(sys.argv[1:])
     built()
-    sizes = [float(word) for word in sys.argv[1:]] or [1, 2, 4]
+    sizes = [float(word) for word in words] or [1, 2, 4]
     print(COLUMNS.format("triples", "MB", "tool", "seconds", "triples/s", "MB/s", "peak MB"))
     with tempfile.TemporaryDirectory() as folder:
         keys = pathlib.Path(folder) / "keys.gk"
@@ -36,7 +39,7 @@ def main():
             with graph.open("w", encoding="utf-8") as out:
                 graphs.mixed(out, triples)
             megabytes = graph.stat().st_size / 1e6
-            names, commands = zip(*tools(str(graph), str(keys)))
+            names, commands = zip(*tools(compared, str(graph), str(keys)))
             for tool, run in zip(names, best_in_turn(commands)):
                 print(COLUMNS.format(triples, f"{megabytes:.0f}", tool, f"{run.seconds:.2f}",
                                      f"{triples / run.seconds:.0f}", f"{megabytes / run.seconds:.0f}", f"{run.megabytes:.0f}"),
