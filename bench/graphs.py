@@ -43,6 +43,12 @@ value $n
 end
 """
 
+LINKED_KEYS = """key by_code <urn:T>
+value $c
+?x <urn:code> $c
+end
+"""
+
 WIDE_KEYS = """key whole <urn:T>
 any _p <urn:P>
 entity ?o <urn:O>
@@ -275,6 +281,12 @@ def woken(out, pairs, seed=1):
         entity(out, f"b:{i}", f"n{i // 2}", code="c" if i < 2 else None, following=f"b:{i - 2}" if i >= 2 else None)
 
 
+def linked(out, names, seed=1):
+    """Entities of which each shares a code with the next: one class of all of them, by as many pairs."""
+    for i in range(names):
+        out.write(f'<urn:a:{i}> {TYPE} <urn:T> .\n<urn:a:{i}> <urn:code> "c{i}" .\n<urn:a:{i}> <urn:code> "c{i + 1}" .\n')
+
+
 def wide(out, pairs, seed=1, parts=12):
     """Entities of one name, each with parts of one tag and of makers of their own. So none is another, which is seen once each
     part of the one has been tried beside each of the other."""
@@ -294,6 +306,7 @@ KINDS = {
     "matched": (matched, CHAIN_KEYS),
     "woken": (woken, CHAIN_KEYS),
     "chain": (chain, CHAIN_KEYS),
+    "linked": (linked, LINKED_KEYS),
     "wide": (wide, WIDE_KEYS),
 }
 
