@@ -25,6 +25,7 @@ impl Journaled for Numbers {
 }
 
 impl Numbers {
+    /// No numbers, with room for so many.
     pub fn new(alloc: Global, room: usize) -> Result<Numbers, AllocError>
         ensures { IfOk result (λ n. n.list.items ≡ []) }
     {
