@@ -403,7 +403,7 @@ pub fn settle_and_take(
     board: &Board,
     thieves: &[Thief],
     others: bool,
-    wanted: bool,
+    crowded: bool,
     lone: bool,
 ) -> Next
     requires board { board_over shared.old.chase.setup shared.old.scribe.board ≡ board.now }
@@ -436,7 +436,7 @@ pub fn settle_and_take(
         settled,
         wasted,
         woke,
-        wanted,
+        crowded,
         class: last_class(shared),
     };
     note_turn(workspace, turn);

@@ -15,7 +15,9 @@
 //! - `turns`: a turn of a worker
 //! - `batch`: what a worker does with the chase in a turn
 //! - `pace`: how a worker's turns go
+//! - `tally`: what the turns of all workers come to
 //! - `signs`: what workers tell one another without the lock
+//! - `door`: what a worker passes before its turn
 //! - `alone`: what a worker does that has a chase for itself
 //! - `hunt`: where a worker looks for a hint
 //! - `crew_member`: a worker with its pass of the lock
@@ -31,6 +33,7 @@ mod batch;
 mod crew;
 mod crew_member;
 mod deques;
+mod door;
 mod gate;
 mod hint_rule;
 mod hints;
@@ -40,6 +43,7 @@ mod run;
 mod search;
 mod shared;
 mod signs;
+mod tally;
 mod threads;
 mod turns;
 mod worker;

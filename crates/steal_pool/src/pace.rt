@@ -1,6 +1,6 @@
 //! How a worker's turns go.
 
-/// After so many steps of a chain, or so many crowded turns, one after another, a worker goes on alone.
+/// After so many steps of a chain, one after another, a worker goes on alone.
 const ALONE: u32 = 256;
 
 /// A post writes a label for each name of the class that its entry made. Where that came to more than so many labels an entry,
@@ -22,8 +22,8 @@ pub struct Settlement {
     pub wasted: usize,
     /// Whether it woke pairs.
     pub woke: bool,
-    /// Whether another thread waited for the turn.
-    pub wanted: bool,
+    /// Whether several workers were of no use in the turns before, as all workers count them.
+    pub crowded: bool,
     /// How many names are in the class that the last entry of all made.
     pub class: usize,
 }
@@ -32,16 +32,6 @@ impl Settlement {
     /// How many entries it made.
     fn entered(&self) -> usize {
         self.left.saturating_sub(self.found)
-    }
-
-    /// Whether others waited, though next to nothing came of the searches but entries and waste: then they only get in each
-    /// other's way.
-    fn is_crowded(&self) -> bool {
-        let rest = self
-            .settled
-            .saturating_sub(self.entered())
-            .saturating_sub(self.wasted);
-        self.wanted && self.settled > 0 && rest <= self.settled / 4
     }
 
     /// Whether more than a quarter of its searches were for nothing.
@@ -56,8 +46,12 @@ impl Settlement {
 pub struct Pace {
     /// How many steps of a chain the last turns were.
     steps: u32,
-    /// How many of the last turns, one after another, were crowded.
-    crowded: u32,
+    /// Whether several workers were of no use in the turns before the last.
+    crowded: bool,
+    /// How many pairs the last turn settled.
+    pub settled: usize,
+    /// How many of these came to an entry, or were searched for nothing.
+    pub spent: usize,
     /// How many entries all its turns made.
     entered: usize,
     /// About how many labels the posts of these entries wrote.
@@ -78,7 +72,9 @@ impl Pace {
     pub fn new() -> Pace {
         Pace {
             steps: 0,
-            crowded: 0,
+            crowded: false,
+            settled: 0,
+            spent: 0,
             entered: 0,
             written: 0,
             seen: 0,
@@ -91,7 +87,9 @@ impl Pace {
         let is_step = self.woke && turn.entered() > 0 && turn.found == self.seen;
         Pace {
             steps: counted(self.steps, is_step),
-            crowded: counted(self.crowded, turn.is_crowded()),
+            crowded: turn.crowded,
+            settled: turn.settled,
+            spent: turn.entered().saturating_add(turn.wasted),
             entered: self.entered.saturating_add(turn.entered()),
             written: self
                 .written
@@ -108,6 +106,6 @@ impl Pace {
 
     /// Whether the worker is to go on alone.
     pub fn is_alone(&self) -> bool {
-        self.steps >= ALONE || self.crowded >= ALONE || self.writes_much()
+        self.steps >= ALONE || self.crowded || self.writes_much()
     }
 }

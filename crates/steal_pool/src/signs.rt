@@ -1,5 +1,7 @@
 //! What workers tell one another without the lock.
 
+use crate::door::Door;
+use crate::tally::Tally;
 use std::sync::atomic::{AtomicU64, Ordering};
 
 /// What workers tell one another without the lock. Nothing is proved of it: each word may be old when it is read.
@@ -9,6 +11,9 @@ pub struct Signs {
     in_search: AtomicU64,
     /// One more than the number of the worker that goes on alone, or 0.
     lone: AtomicU64,
+    /// What a worker passes before its turn.
+    pub door: Door,
+    pub tally: Tally,
 }
 
 impl Signs {
@@ -17,6 +22,8 @@ impl Signs {
         Signs {
             in_search: AtomicU64::new(0),
             lone: AtomicU64::new(0),
+            door: Door::new(),
+            tally: Tally::new(),
         }
     }
 

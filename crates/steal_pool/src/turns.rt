@@ -11,6 +11,7 @@ use crate::hints::Thief;
 use crate::hunt::push_kept;
 use crate::shared::Shared;
 use crate::signs::Signs;
+use crate::workspace::Workspace;
 use chase_core::Setup;
 use label_board::Board;
 use std::sync::Wait;
@@ -36,6 +37,17 @@ fn push_woken<'a>(
     );
 }
 
+/// Counts a turn that is about to end, of one of so many workers.
+fn note_turn(signs: &Signs, workspace: &Workspace, workers: usize) {
+    signs.tally.note(
+        workspace.pace.settled as u64,
+        workspace.pace.spent as u64,
+        signs.door.waiting(),
+        (workers as u64).saturating_sub(1),
+        u64::from(workspace.count),
+    );
+}
+
 /// A turn in which the worker's jobs are settled, and the next pairs taken.
 fn settle_and_take_in_turn<'a, R: Wait>(
     rt: &R,
@@ -51,10 +63,11 @@ fn settle_and_take_in_turn<'a, R: Wait>(
     ensures setup { base_of member.new.pass ≡ Some (result.1.now, board.now) }
 {
     let searched = member.workspace.searches;
+    signs.door.enter(rt);
     let mut turn = lock.enter(rt, &mut member.pass);
     let shared = turn.value();
     let others = signs.searching() > u64::from(searched);
-    let wanted = lock.is_wanted(&member.pass);
+    let crowded = signs.tally.is_crowded();
     let lone = signs.lone() > 0;
     let next = settle_and_take(
         shared,
@@ -62,15 +75,17 @@ fn settle_and_take_in_turn<'a, R: Wait>(
         board,
         thieves,
         others,
-        wanted,
+        crowded,
         lone,
     );
     let setup = shared.chase.setup();
     if let Next::GoAlone = next {
         signs.go_alone(member.workspace.number);
     }
+    note_turn(signs, &member.workspace, thieves.len());
     signs.count_in(searched, member.workspace.searches);
     lock.leave(turn, &mut member.pass);
+    signs.door.leave();
     (next, setup)
 }
 

@@ -70,11 +70,6 @@ impl<T: Journaled> TurnLock<T> {
         self.put(ticket, value, &mut pass.seat);
     }
 
-    /// Whether others seem to wait for their turns, asked by who has the turn. Nothing is proved of the answer.
-    pub fn is_wanted(&self, pass: &Pass<T>) -> bool {
-        self.table.shared.peek(TICKET).wrapping_sub(pass.ticket) > 1
-    }
-
     // Draws a ticket, waits until it is called, and takes the value out of the slot.
     fn take<R: Wait>(&self, rt: &R, seat: &mut Seat<Option<T>, View<T::Base, T::Item>>) -> (u64, T)
         requires seat { (seat.old.table_id ≡ self.now.table.shared.table_id) × (0 < seat.old.me.0.parts) }

@@ -1,0 +1,108 @@
+//! What the turns of all workers come to: whether several are of use.
+
+use std::sync::atomic::{AtomicU64, Ordering};
+
+/// Turns are judged together by so many at least.
+const TURNS: u64 = 512;
+
+/// And so that they settle one in so many of all pairs: where workers are of no use only at the beginning, they stay together.
+const PART: u64 = 4;
+
+/// Several workers are of no use where, on an average, one in so many of the others, or more, waits when a turn ends, so that
+/// searches are short beside turns,
+const WAITED: u64 = 4;
+
+/// and where of the pairs that are settled one in so many, or more, came to an entry or was searched for nothing.
+const SPENT: u64 = 4;
+
+/// What some turns came to.
+#[derive(Clone, Copy)]
+struct Sums {
+    turns: u64,
+    /// How many pairs were settled.
+    settled: u64,
+    /// How many of these came to an entry, or were searched for nothing.
+    spent: u64,
+    /// How many others waited when they ended, in all.
+    waited: u64,
+}
+
+impl Sums {
+    /// Whether they are enough to be judged, of a chase over so many pairs.
+    fn are_enough(&self, pairs: u64) -> bool {
+        self.turns >= TURNS && self.settled.saturating_mul(PART) >= pairs
+    }
+
+    /// Whether so many others were of no use in them.
+    fn are_crowded(&self, others: u64) -> bool {
+        self.waited.saturating_mul(WAITED) >= others.saturating_mul(self.turns)
+            && self.spent.saturating_mul(SPENT) >= self.settled
+    }
+
+    /// Whether they were of no use at all: next to nothing came of the searches but entries and waste. A few turns tell that.
+    fn are_overcrowded(&self, others: u64) -> bool {
+        self.turns >= TURNS
+            && self.are_crowded(others)
+            && self.settled.saturating_sub(self.spent) <= self.settled / 4
+    }
+}
+
+/// What the last turns of all workers came to. It is changed by who has the turn alone. Nothing is proved of it.
+#[derive(Drop)]
+pub struct Tally {
+    turns: AtomicU64,
+    settled: AtomicU64,
+    spent: AtomicU64,
+    waited: AtomicU64,
+    /// 1 where several workers were of no use.
+    crowded: AtomicU64,
+}
+
+/// Adds to a sum, and answers what it is then.
+fn add(sum: &AtomicU64, more: u64) -> u64 {
+    let new = sum.load(Ordering::SeqCst).saturating_add(more);
+    sum.store(new, Ordering::SeqCst);
+    new
+}
+
+impl Tally {
+    /// No turn so far.
+    pub fn new() -> Tally {
+        Tally {
+            turns: AtomicU64::new(0),
+            settled: AtomicU64::new(0),
+            spent: AtomicU64::new(0),
+            waited: AtomicU64::new(0),
+            crowded: AtomicU64::new(0),
+        }
+    }
+
+    /// Counts a turn, at whose end so many of the other workers waited, of a chase over so many pairs.
+    pub fn note(&self, settled: u64, spent: u64, waiting: u64, others: u64, pairs: u64) {
+        let sums = Sums {
+            turns: add(&self.turns, 1),
+            settled: add(&self.settled, settled),
+            spent: add(&self.spent, spent),
+            waited: add(&self.waited, waiting),
+        };
+        let enough = sums.are_enough(pairs);
+        if sums.are_overcrowded(others) || (enough && sums.are_crowded(others)) {
+            self.crowded.store(1, Ordering::SeqCst);
+        }
+        if enough {
+            self.begin_anew();
+        }
+    }
+
+    /// Forgets the turns so far.
+    fn begin_anew(&self) {
+        for sum in [&self.turns, &self.settled, &self.spent, &self.waited] {
+            sum.store(0, Ordering::SeqCst);
+        }
+    }
+
+    /// Whether several workers were of no use.
+    pub fn is_crowded(&self) -> bool {
+        self.crowded.load(Ordering::SeqCst) > 0
+    }
+}
