@@ -246,6 +246,29 @@ def crowded(out, triples, seed=1):
     catalogue(Crowding(out, max(1, triples // 132 * 16 // 3), seed), triples, seed)
 
 
+class Renaming:
+    """What is written to it goes on, but that albums have titles of which a few are common: each album draws one by its number, of
+    a thousand million titles, and a title's share goes down with its number."""
+
+    TITLES, FALL = 10 ** 9, 0.9
+
+    def __init__(self, out):
+        self.out = out
+
+    def write(self, line):
+        if f"<{SITE}title>" in line:
+            rest, drawn = 1 - self.FALL, random.Random(int(line.split("/album/")[1].split(">")[0])).random()
+            title = int((drawn * (self.TITLES ** rest - 1) + 1) ** (1 / rest))
+            line = line.split(' "')[0] + f' "Album {title}" .\n'
+        self.out.write(line)
+
+
+def common(out, triples, seed=1):
+    """The catalogue with titles of which a few are common: for a million triples some 5.7 million candidate pairs, of which the
+    ten most common titles have five in six."""
+    catalogue(Renaming(out), triples, seed)
+
+
 def entity(out, name, text, code=None, following=None):
     out.write(f'<urn:{name}> {TYPE} <urn:T> .\n<urn:{name}> <urn:name> "{text}" .\n')
     if code is not None:
@@ -301,6 +324,7 @@ def wide(out, pairs, seed=1, parts=12):
 KINDS = {
     "catalogue": (catalogue, CATALOGUE_KEYS),
     "crowded": (crowded, CATALOGUE_KEYS),
+    "common": (common, CATALOGUE_KEYS),
     "bibliography": (bibliography, BIBLIOGRAPHY_KEYS),
     "missed": (missed, CHAIN_KEYS),
     "matched": (matched, CHAIN_KEYS),

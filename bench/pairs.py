@@ -1,6 +1,6 @@
 #!/usr/bin/env python3
-"""Times `gkey match` on graphs with many candidate pairs: a catalogue with crowded titles, a bibliography, hubs whose pairs
-never match, match, or wake each other, a chain, and one class.
+"""Times `gkey match` on graphs with many candidate pairs: catalogues with crowded titles, a bibliography, hubs whose
+pairs never match, match, or wake each other, a chain, and one class.
 
 Usage: bench/pairs.py [--before PROGRAM] [KIND SIZE ..]
 
@@ -15,9 +15,9 @@ import tempfile
 from graphs import written
 from timing import best_in_turn, built, planned, print_the_same, programs
 
-PLAN = [("crowded", 10 ** 5), ("crowded", 4 * 10 ** 5), ("crowded", 10 ** 6), ("bibliography", 3 * 10 ** 5),
-        ("bibliography", 10 ** 6), ("missed", 10 ** 6), ("matched", 10 ** 6), ("woken", 10 ** 6), ("chain", 10 ** 5),
-        ("linked", 10 ** 5)]
+PLAN = [("crowded", 10 ** 5), ("crowded", 4 * 10 ** 5), ("crowded", 10 ** 6), ("common", 10 ** 6),
+        ("bibliography", 3 * 10 ** 5), ("bibliography", 10 ** 6), ("missed", 10 ** 6), ("matched", 10 ** 6), ("woken", 10 ** 6),
+        ("chain", 10 ** 5), ("linked", 10 ** 5)]
 
 
 def measure(folder, kind, size, compared):
