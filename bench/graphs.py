@@ -247,26 +247,35 @@ def crowded(out, triples, seed=1):
 
 
 class Renaming:
-    """What is written to it goes on, but that albums have titles of which a few are common: each album draws one by its number, of
-    a thousand million titles, and a title's share goes down with its number."""
+    """What is written to it goes on, the albums first, and these have titles of which a few are common: each album draws one by its
+    number, of a thousand million titles, and a title's share goes down with its number."""
 
     TITLES, FALL = 10 ** 9, 0.9
 
     def __init__(self, out):
-        self.out = out
+        self.out, self.others = out, []
 
     def write(self, line):
+        if "/album/" not in line:
+            self.others.append(line)
+            return
         if f"<{SITE}title>" in line:
             rest, drawn = 1 - self.FALL, random.Random(int(line.split("/album/")[1].split(">")[0])).random()
             title = int((drawn * (self.TITLES ** rest - 1) + 1) ** (1 / rest))
             line = line.split(' "')[0] + f' "Album {title}" .\n'
         self.out.write(line)
 
+    def end(self):
+        self.out.writelines(self.others)
+
 
 def common(out, triples, seed=1):
     """The catalogue with titles of which a few are common: for a million triples some 5.7 million candidate pairs, of which the
-    ten most common titles have five in six."""
-    catalogue(Renaming(out), triples, seed)
+    ten most common titles have five in six. The albums come first, so their pairs are searched before artists and labels are
+    identified, and most are woken."""
+    renaming = Renaming(out)
+    catalogue(renaming, triples, seed)
+    renaming.end()
 
 
 def entity(out, name, text, code=None, following=None):
