@@ -272,7 +272,7 @@ class Renaming:
 def common(out, triples, seed=1):
     """The catalogue with titles of which a few are common: for a million triples some 5.7 million candidate pairs, of which the
     ten most common titles have five in six. The albums come first, so their pairs are searched before artists and labels are
-    identified, and most are woken."""
+    identified."""
     renaming = Renaming(out)
     catalogue(renaming, triples, seed)
     renaming.end()

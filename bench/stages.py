@@ -23,8 +23,8 @@ from timing import PROGRAM, built, planned, print_load
 
 NEEDS = ["match_run", "steal_pool", "chase_core", "pair_filter", "pair_seed", "graph_rows", "key_lang", "gk_io", "gk_base", "anyhow"]
 PROCESSORS = {0: "0", 1: "0", 2: "0,1", 4: "0-3"}  # by the number of workers
-PLAN = [("crowded", 10 ** 6), ("bibliography", 10 ** 6), ("missed", 10 ** 6), ("matched", 10 ** 6), ("woken", 10 ** 6),
-        ("chain", 10 ** 5), ("wide", 10 ** 5)]
+PLAN = [("crowded", 10 ** 6), ("common", 10 ** 6), ("bibliography", 10 ** 6), ("missed", 10 ** 6), ("matched", 10 ** 6),
+        ("woken", 10 ** 6), ("chain", 10 ** 5), ("wide", 10 ** 5)]
 COLUMNS = "{:>13} {:>9} {:>4} {:>9} {:>9} {:>9} {:>8} {:>8} {:>8} {:>8} {:>8} {:>6} {:>6}"
 
 
