@@ -6,10 +6,10 @@ pub mod Noted
 pub mod Taking
 pub mod Settling
 pub mod Holding
+pub mod Present
 -- inner invariants and words of the proofs
 pub mod Inner
 pub mod Kept
-pub mod Present
 pub mod Gathering
 pub mod Passing
 pub mod Shown

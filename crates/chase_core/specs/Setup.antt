@@ -1,5 +1,5 @@
 -- What a chase works on, prepared (this project's own).
-use Rattle.std.specs.Prelude.{List, ℕ, Some, All, Any, Contains, length, min, slice_get, ◌≡◌, ◌<◌, ◌≤◌, ◌+◌, ◌⊎◌, ◌↔◌}
+use Rattle.std.specs.Prelude.{List, ℕ, Some, All, Any, length, min, slice_get, ◌≡◌, ◌≤◌, ◌+◌, ◌⊎◌}
 use Rattle.chase_laws.specs.Shape.{Shape}
 use Rattle.chase_laws.specs.Graph.{NumberedGraph}
 use Rattle.chase_laws.specs.Core.{Task, name_count}

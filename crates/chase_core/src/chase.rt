@@ -1,31 +1,32 @@
 //! `Chase`: which names are the same so far, where each pair stands, and the calls that go on from there.
 
-ghost use Rattle.std.specs.Prelude.{◌≡◌, ◌≢◌, ◌<◌, ◌≤◌, ◌++◌, ◌↔◌, List, ℕ, IfOk, IfSome, IfNone, OnSome, MatchOption, Some, length, slice_get};
+ghost use Rattle.std.specs.Prelude.{◌≡◌, ◌≢◌, ◌<◌, ◌≤◌, ◌++◌, ◌↔◌, ◌⊎◌, List, ℕ, IfOk, IfSome, IfNone, IsTrue, OnSome, MatchOption, Some, length, slice_get};
 ghost use Rattle.std.specs.Option.{ForSome};
 ghost use Rattle.std.specs.List.{range_with_len};
 ghost use Rattle.chase_laws.specs.declared.entry.Entry.{Entry};
 ghost use Rattle.chase_laws.specs.declared.pair_state.PairState.TheVariants as state;
 ghost use Rattle.chase_laws.specs.Joined.{Joined};
 ghost use Rattle.chase_laws.specs.Core.{PairAt, ListsNear, IsPresent, Event, Happens, Run, IsFinished, opening};
-ghost use Rattle.chase_laws.specs.Core.Event.{Recall};
+ghost use Rattle.chase_laws.specs.Core.Event.{Already as AlreadyJoined, Miss, Recall};
 ghost use Rattle.chase_core.specs.declared.ticket.Outcome.TheVariants.{Missed};
 ghost use Rattle.chase_core.specs.declared.ticket.Settled.TheVariants.{Already, Reopened};
 ghost use Rattle.chase_core.specs.Running.{state_in, IsRunning};
 ghost use Rattle.chase_core.specs.Taking.{TakesFirst, TakesHint, pair_of};
 ghost use Rattle.chase_core.specs.Holding.{IsHeld};
 ghost use Rattle.chase_core.specs.Settling.{IsRightOutcome, RiseInOrder, Settles, Notes};
-ghost use Rattle.chase_core.specs.Present.{SettlesPresent};
+ghost use Rattle.chase_core.specs.Present.{SettlesPresent, IsUnmatchedBy, CoversLabels};
 
 use crate::recall::recall_parts;
-use crate::settle::{settle_missed_parts, settle_parts, settle_present};
+use crate::settle::{settle_missed_parts, settle_parts, settle_present, settle_unmatched_parts};
 use crate::table::PairTable;
-use crate::take::{take_parts, take_unseen_parts};
+use crate::take::{take_parts, take_unseen_parts, ticket_of};
+use crate::tried::finds_nothing;
 use crate::{Matched, Outcome, Settled, Setup, Ticket, Woken};
 use chase_laws::PairState;
 use chase_laws::core_law::law_core;
 use class_book::Book;
 use gk_base::NoMemory;
-use paired_search::View;
+use paired_search::{Sameness, View};
 use std::alloc::Global;
 use std::marker::Model;
 
@@ -247,6 +248,28 @@ impl<'a> Chase<'a> {
             ticket,
             woken,
         )
+    }
+
+    /// Whether a search for a pair finds nothing by what may be the same. It changes nothing, so several threads may ask at once.
+    pub fn is_unmatched<S: Sameness>(&self, pair: u32, may_be: &S) -> bool
+        requires { pair < length self.now.setup.task.pairs }
+        ensures { IsTrue result ↔ IsUnmatchedBy self.now.setup.task (S.are_same may_be.now) pair }
+    {
+        finds_nothing(self.setup, &ticket_of(self.setup, pair), may_be)
+    }
+
+    /// Settles a pair for which a search found nothing by what may be the same, where that is all that is the same by the
+    /// present labels, or more: as one that was searched by these, or whose ends are joined already.
+    pub fn settle_unmatched<S: Sameness>(&mut self, pair: u32, may_be: &S)
+        requires unmatched { IsUnmatchedBy self.old.setup.task (S.are_same may_be.now) pair }
+        requires covers { CoversLabels self.old.book.labels (S.are_same may_be.now) }
+        ensures event { Happens self.old.setup.task (state_in self.old) (AlreadyJoined pair) (state_in self.new)
+            ⊎ ((view : List (ℕ × ℕ)) × Happens self.old.setup.task (state_in self.old) (Miss pair view) (state_in self.new)) }
+        ensures setup { self.new.setup ≡ self.old.setup }
+        ensures book { self.new.book ≡ self.old.book }
+    {
+        law_core();
+        settle_unmatched_parts(self.setup, &self.book, &mut self.table, pair, may_be);
     }
 
     /// The labels and the journal. It takes no memory.

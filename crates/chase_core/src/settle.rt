@@ -1,28 +1,29 @@
 //! Settles a pair that was searched: enters what was found, and keeps that nothing was found while that is still known.
 
-ghost use Rattle.std.specs.Prelude.{◌≡◌, ◌<◌, ◌≤◌, [], List, ℕ, IfSome, IfNone, Some, length, slice_get, slice_index, take, vec_capacity};
+ghost use Rattle.std.specs.Prelude.{◌≡◌, ◌<◌, ◌≤◌, ◌⊎◌, [], List, ℕ, IfSome, IfNone, Some, length, slice_get, slice_index, take, vec_capacity};
 ghost use Rattle.chase_laws.specs.declared.pair_state.PairState.TheVariants as state;
 ghost use Rattle.chase_laws.specs.Joined.{Joined};
 ghost use Rattle.chase_laws.specs.Chase.{IsStep};
 ghost use Rattle.chase_laws.specs.Core.{IsSound, name_count, PairAt, ListsNear, IsPresent, Happens};
-ghost use Rattle.chase_laws.specs.Core.Event.{Enter};
+ghost use Rattle.chase_laws.specs.Core.Event.{Enter, Already, Miss};
 ghost use Rattle.paired_search.specs.Held.{Ascends};
 ghost use Rattle.list_pool.specs.Pool.{without};
 ghost use Rattle.chase_core.specs.declared.ticket.Outcome.TheVariants.{Missed};
 ghost use Rattle.chase_core.specs.Running.{state_of, running_with, journal_room};
 ghost use Rattle.chase_core.specs.Settling.{entry_of, IsRightOutcome, IsFirstOvertaken, RiseInOrder, Settles, Notes};
 ghost use Rattle.chase_core.specs.Inner.{SettlesMissed};
-ghost use Rattle.chase_core.specs.Present.{SettlesPresent};
+ghost use Rattle.chase_core.specs.Present.{SettlesPresent, IsUnmatchedBy, CoversLabels};
 
 use crate::gather::gather_across;
 use crate::table::PairTable;
+use crate::take::ticket_of;
 use crate::tried::find_present;
 use crate::wake::wake_each;
 use crate::{Outcome, Settled, Setup, Ticket, Woken};
 use chase_laws::core_law::law_core;
 use chase_laws::{Entry, PairState};
 use class_book::Book;
-use paired_search::{Finding, View};
+use paired_search::{Finding, Sameness, View};
 
 /// The first name of a pair's view whose label is not the present one, with the label in the view and the present one.
 fn overtaken(setup: &Setup, book: &Book, ticket: Ticket, view: &View) -> Option<(u32, u32, u32)>
@@ -262,4 +263,30 @@ pub fn settle_present(
             Settled::Missed
         }
     }
+}
+
+/// Settles a pair for which a search found nothing by what may be the same, where that is all that is the same by the present
+/// labels, or more.
+pub fn settle_unmatched_parts<S: Sameness>(
+    setup: &Setup,
+    book: &Book,
+    table: &mut PairTable,
+    pair: u32,
+    may_be: &S,
+)
+    requires sound { IsSound setup.now.task (state_of book.now table.old) }
+    requires unmatched { IsUnmatchedBy setup.now.task (S.are_same may_be.now) pair }
+    requires covers { CoversLabels book.now.labels (S.are_same may_be.now) }
+    ensures event { Happens setup.now.task (state_of book.now table.old) (Already pair) (state_of book.now table.new)
+        ⊎ ((view : List (ℕ × ℕ)) × Happens setup.now.task (state_of book.now table.old) (Miss pair view) (state_of book.now table.new)) }
+{
+    setup.prepared();
+    // What may be the same is only named in the contract.
+    let _ = may_be;
+    let ticket = ticket_of(setup, pair);
+    if book.same(ticket.a, ticket.b) {
+        table.mark(pair, PairState::Joined);
+        return;
+    }
+    table.mark(pair, PairState::Missed);
 }

@@ -19,7 +19,7 @@ use paired_search::View;
 
 /// A pair by its number.
 #[inline]
-fn ticket_of(setup: &Setup, pair: u32) -> Ticket
+pub fn ticket_of(setup: &Setup, pair: u32) -> Ticket
     requires { pair < length setup.now.task.pairs }
     ensures pair { result.pair ≡ pair }
     ensures ends { PairAt setup.now.task pair result.a result.b }

@@ -169,3 +169,26 @@ fn crews_of_all_sizes_come_to_the_same(rt: HostRuntime) {
         }
     }
 }
+
+/// How many pairs have passed once.
+fn passed_once(gate: &Counts) -> usize {
+    gate.passed
+        .iter()
+        .filter(|count| count.load(Ordering::SeqCst) == 1)
+        .count()
+}
+
+#[test]
+fn what_nothing_can_match_is_searched_once(rt: HostRuntime) {
+    let prepared = prepared(&rt, rt.alloc(), Kind::Crowd, 100);
+    let alone = drained(&rt, rt.alloc(), &prepared.setup);
+    for workers in [1, 4] {
+        // 4,950 pairs of the crowd, and the first two of those that it leads to.
+        let gate = Counts::new(rt.alloc(), 4951).expect(&rt, ENOUGH);
+        let whole = chase_setup(&rt, rt.alloc(), &prepared.setup, workers, &gate);
+        let whole = whole.expect(&rt, ENOUGH);
+        assert!(&rt; are_alike(&whole.labels, &alone.labels));
+        assert_eq!(&rt; whole.journal.len(), 2);
+        assert_eq!(&rt; passed_once(&gate), 4949);
+    }
+}

@@ -1,4 +1,5 @@
-//! Graphs of so many pairs of names of type 1. Both names of a pair have one literal under 2, which no other has.
+//! Graphs of names of type 1: so many pairs, of which both names have one literal under 2 that no other has, or a crowd of names
+//! that all have one.
 
 use crate::ENOUGH;
 use chase_laws::Slot;
@@ -15,6 +16,9 @@ pub enum Kind {
     Alone,
     /// Only the last has, and each other leads to the next under 3 and needs that to be the same.
     Chain,
+    /// A crowd of so many names, of which each leads to one of its own under 3. The first two of these are found to be the same
+    /// by a literal under 4, and so the first two of the crowd are.
+    Crowd,
 }
 
 // One literal under 4, or one under 2 and what is the same under 3.
@@ -54,25 +58,63 @@ fn push_pair(rows: &mut Vec<[u32; 3]>, first: u32, ends: bool) -> Result<(), All
     push_name(rows, first.wrapping_add(1), literal, ends)
 }
 
-/// The rows of so many pairs, their literals, and the number after the last name.
-fn rows_of(
-    alloc: Global,
-    kind: Kind,
-    count: u32,
-) -> Result<(Vec<[u32; 3]>, Vec<u32>, u32), AllocError> {
+/// Rows, their literals, and the number after the last name.
+#[derive(Drop)]
+struct Table {
+    rows: Vec<[u32; 3]>,
+    literals: Vec<u32>,
+    names: u32,
+}
+
+/// So many pairs, each alone or in a chain.
+fn pairs_of(alloc: Global, is_chain: bool, count: u32) -> Result<Table, AllocError> {
     let mut rows = Vec::new(alloc);
     let mut literals = Vec::new(alloc);
-    let mut first = 5u32;
+    let mut names = 5u32;
     for i in 0..count {
-        let ends = match kind {
-            Kind::Alone => true,
-            Kind::Chain => i == count - 1,
-        };
-        push_pair(&mut rows, first, ends)?;
-        literals.push(first.wrapping_add(2))?;
-        first = first.wrapping_add(3);
+        push_pair(&mut rows, names, !is_chain || i == count - 1)?;
+        literals.push(names.wrapping_add(2))?;
+        names = names.wrapping_add(3);
     }
-    Ok((rows, literals, first))
+    Ok(Table {
+        rows,
+        literals,
+        names,
+    })
+}
+
+/// A crowd of so many names. The literals are 5 and 6.
+fn crowd_of(alloc: Global, count: u32) -> Result<Table, AllocError> {
+    let mut rows = Vec::new(alloc);
+    let mut literals = Vec::new(alloc);
+    literals.push(5)?;
+    literals.push(6)?;
+    let mut names = 7u32;
+    for i in 0..count {
+        let next = names.wrapping_add(1);
+        rows.push([names, 0, 1])?;
+        rows.push([names, 2, 5])?;
+        rows.push([names, 3, next])?;
+        rows.push([next, 0, 1])?;
+        if i < 2 {
+            rows.push([next, 4, 6])?;
+        }
+        names = names.wrapping_add(2);
+    }
+    Ok(Table {
+        rows,
+        literals,
+        names,
+    })
+}
+
+/// The rows of this kind.
+fn table_of(alloc: Global, kind: Kind, count: u32) -> Result<Table, AllocError> {
+    match kind {
+        Kind::Alone => pairs_of(alloc, false, count),
+        Kind::Chain => pairs_of(alloc, true, count),
+        Kind::Crowd => crowd_of(alloc, count),
+    }
 }
 
 // The keys, behind a function, so that proofs do not see them.
@@ -80,18 +122,18 @@ fn keys() -> &'static [PatternTable<'static>] {
     &KEYS
 }
 
-/// So many pairs, prepared for a chase.
+/// A graph of this kind, prepared for a chase.
 pub fn prepared<R: Threads + Sync + Abort>(
     rt: &R,
     alloc: Global,
     kind: Kind,
     count: u32,
 ) -> Prepared {
-    let (rows, literals, names) = rows_of(alloc, kind, count).expect(rt, ENOUGH);
+    let made = table_of(alloc, kind, count).expect(rt, ENOUGH);
     let table = GraphTable {
-        names,
-        rows: &rows,
-        literals: &literals,
+        names: made.names,
+        rows: &made.rows,
+        literals: &made.literals,
         rdf_type: Some(0),
         alike: &[],
     };

@@ -27,6 +27,8 @@ pub struct Crew<'a> {
     pub(crate) members: Vec<CrewMember<Shared<'a>>>,
     /// Room for the passes when they come back.
     pub(crate) home: Vec<Pass<Shared<'a>>>,
+    /// How many pairs were Ready.
+    pub(crate) ready: u64,
 }
 
 impl<'a> Model for Crew<'a> {
@@ -81,6 +83,7 @@ impl<'a> Crew<'a> {
     {
         let names = chase.setup().graph().names();
         let jobs = batch_size(chase.setup().widest());
+        let ready = chase.ready_count() as u64;
         let Ok((board, scribe, watchers)) = Board::new(alloc, chase.book(), names, workers * jobs)
         else {
             return Err((chase, NoMemory));
@@ -116,6 +119,7 @@ impl<'a> Crew<'a> {
                     thieves,
                     members,
                     home: passes,
+                    ready,
                 })
             }
             Err((shared, NoMemory)) => {

@@ -38,9 +38,10 @@ pub fn run_crew<'a, G: Gate, R: Threads + Wait + Sync>(
         thieves,
         mut members,
         mut home,
+        ready,
     } = crew;
     let alone = members.len() == 1;
-    let signs = Signs::new();
+    let signs = Signs::new(ready);
     work_all(
         rt,
         &lock,

@@ -17,13 +17,13 @@ pub struct Signs {
 }
 
 impl Signs {
-    /// Nobody searches, and nobody goes on alone.
-    pub fn new() -> Signs {
+    /// Nobody searches, and nobody goes on alone. So many pairs are Ready.
+    pub fn new(ready: u64) -> Signs {
         Signs {
             in_search: AtomicU64::new(0),
             lone: AtomicU64::new(0),
             door: Door::new(),
-            tally: Tally::new(),
+            tally: Tally::new(ready),
         }
     }
 

@@ -5,7 +5,8 @@ use std::sync::atomic::{AtomicU64, Ordering};
 /// Turns are judged together by so many at least.
 const TURNS: u64 = 512;
 
-/// And so that they settle one in so many of all pairs: where workers are of no use only at the beginning, they stay together.
+/// And so that they settle one in so many of the pairs that were Ready at first: where workers are of no use only at the
+/// beginning, they stay together.
 const PART: u64 = 4;
 
 /// Several workers are of no use where, on an average, one in so many of the others, or more, waits when a turn ends, so that
@@ -28,9 +29,9 @@ struct Sums {
 }
 
 impl Sums {
-    /// Whether they are enough to be judged, of a chase over so many pairs.
-    fn are_enough(&self, pairs: u64) -> bool {
-        self.turns >= TURNS && self.settled.saturating_mul(PART) >= pairs
+    /// Whether they are enough to be judged, where so many pairs were Ready at first.
+    fn are_enough(&self, ready: u64) -> bool {
+        self.turns >= TURNS && self.settled.saturating_mul(PART) >= ready
     }
 
     /// Whether so many others were of no use in them.
@@ -50,6 +51,8 @@ impl Sums {
 /// What the last turns of all workers came to. It is changed by who has the turn alone. Nothing is proved of it.
 #[derive(Drop)]
 pub struct Tally {
+    /// How many pairs were Ready at first.
+    ready: u64,
     turns: AtomicU64,
     settled: AtomicU64,
     spent: AtomicU64,
@@ -66,9 +69,10 @@ fn add(sum: &AtomicU64, more: u64) -> u64 {
 }
 
 impl Tally {
-    /// No turn so far.
-    pub fn new() -> Tally {
+    /// No turn so far, and so many pairs Ready.
+    pub fn new(ready: u64) -> Tally {
         Tally {
+            ready,
             turns: AtomicU64::new(0),
             settled: AtomicU64::new(0),
             spent: AtomicU64::new(0),
@@ -77,15 +81,15 @@ impl Tally {
         }
     }
 
-    /// Counts a turn, at whose end so many of the other workers waited, of a chase over so many pairs.
-    pub fn note(&self, settled: u64, spent: u64, waiting: u64, others: u64, pairs: u64) {
+    /// Counts a turn, at whose end so many of the other workers waited.
+    pub fn note(&self, settled: u64, spent: u64, waiting: u64, others: u64) {
         let sums = Sums {
             turns: add(&self.turns, 1),
             settled: add(&self.settled, settled),
             spent: add(&self.spent, spent),
             waited: add(&self.waited, waiting),
         };
-        let enough = sums.are_enough(pairs);
+        let enough = sums.are_enough(self.ready);
         if sums.are_overcrowded(others) || (enough && sums.are_crowded(others)) {
             self.crowded.store(1, Ordering::SeqCst);
         }

@@ -44,7 +44,6 @@ fn note_turn(signs: &Signs, workspace: &Workspace, workers: usize) {
         workspace.pace.spent as u64,
         signs.door.waiting(),
         (workers as u64).saturating_sub(1),
-        u64::from(workspace.count),
     );
 }
 
