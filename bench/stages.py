@@ -5,10 +5,11 @@ processor the chase also by one thread that drains it, in the row of 0 workers.
 Usage: bench/stages.py [KIND SIZE ..]
 
 The kinds are those of bench/graphs.py. Times are seconds by the clock, each the least of three runs, which come in turn.
-`searches` are those of the chase by so many workers: what goes beyond the kept pairs was searched again, because it was woken or
-because a label had changed meanwhile. `all` is the chase over all candidate pairs, none of them filtered and each searched by
-all keys: the filter pays where `filter` and `chase` are less together. `times` is how often the time of one worker holds that of
-so many, in the chase and in the whole run. At the end stands the load of the machine.
+`searches` are those of the chase by so many workers, with the looks for pairs that nothing can match: what goes beyond the kept
+pairs may match and was looked at first, or was searched again, because it was woken or because a label had changed meanwhile.
+`all` is the chase over all candidate pairs, none of them filtered and each searched by all keys: the filter pays where `filter`
+and `chase` are less together. `times` is how often the time of one worker holds that of so many, in the chase and in the whole
+run. At the end stands the load of the machine.
 """
 
 import pathlib
