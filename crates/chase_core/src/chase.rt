@@ -8,6 +8,7 @@ ghost use Rattle.chase_laws.specs.declared.pair_state.PairState.TheVariants as s
 ghost use Rattle.chase_laws.specs.Joined.{Joined};
 ghost use Rattle.chase_laws.specs.Core.{PairAt, ListsNear, IsPresent, Event, Happens, Run, IsFinished, opening};
 ghost use Rattle.chase_laws.specs.Core.Event.{Already as AlreadyJoined, Miss, Recall};
+ghost use Rattle.list_pool.specs.Pool.{without};
 ghost use Rattle.chase_core.specs.declared.ticket.Outcome.TheVariants.{Missed};
 ghost use Rattle.chase_core.specs.declared.ticket.Settled.TheVariants.{Already, Reopened};
 ghost use Rattle.chase_core.specs.Running.{state_in, IsRunning};
@@ -265,6 +266,7 @@ impl<'a> Chase<'a> {
         requires covers { CoversLabels self.old.book.labels (S.are_same may_be.now) }
         ensures event { Happens self.old.setup.task (state_in self.old) (AlreadyJoined pair) (state_in self.new)
             ⊎ ((view : List (ℕ × ℕ)) × Happens self.old.setup.task (state_in self.old) (Miss pair view) (state_in self.new)) }
+        ensures ready { self.new.table.ready ≡ without self.old.table.ready pair }
         ensures setup { self.new.setup ≡ self.old.setup }
         ensures book { self.new.book ≡ self.old.book }
     {

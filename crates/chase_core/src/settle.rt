@@ -279,6 +279,7 @@ pub fn settle_unmatched_parts<S: Sameness>(
     requires covers { CoversLabels book.now.labels (S.are_same may_be.now) }
     ensures event { Happens setup.now.task (state_of book.now table.old) (Already pair) (state_of book.now table.new)
         ⊎ ((view : List (ℕ × ℕ)) × Happens setup.now.task (state_of book.now table.old) (Miss pair view) (state_of book.now table.new)) }
+    ensures ready { table.new.ready ≡ without table.old.ready pair }
 {
     setup.prepared();
     // What may be the same is only named in the contract.
