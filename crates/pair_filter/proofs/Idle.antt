@@ -11,7 +11,7 @@ use Rattle.chase_laws.specs.Pairing.{GoTogether, PairedHere, ArePaired}
 use Rattle.pair_filter.specs.Keys.{ArePairedUnder}
 use Rattle.pair_filter.specs.Telling.{IsRuledOut}
 
-some_same : {A : Type 0} (x y : A) → Some x ≡ Some y → x ≡ y
+pub some_same : {A : Type 0} (x y : A) → Some x ≡ Some y → x ≡ y
 some_same x y e = cc
 
 module _ (G : NumberedGraph) where
@@ -69,6 +69,12 @@ module _ (G : NumberedGraph) (Q : Shape) (a b t : ℕ) (first : slice_get Q.slot
   pub unpaired_out : ¬ (ArePairedUnder G Q a b) → IsRuledOut G Q a b
   unpaired_out none = record { unpaired = none; idle = λ same v w x. none (match_under G Q same a b v w x t first) }
 
+  -- two that are paired are so under the key
+  pub under_paired : ArePaired G Q 2 0 a b → ArePairedUnder G Q a b
+  under_paired paired =
+      let here = paired.0 (Entity t) first in
+      record { left = (Entity t, first, here.0); right = (Entity t, first, here.1); paired = paired }
+
   -- a key whose type one of the two lacks is ruled out
   pub missing_out : ¬ (FitsSlot G (Entity t) a × FitsSlot G (Entity t) b) → IsRuledOut G Q a b
   missing_out lacks = unpaired_out (λ h. lacks (
@@ -93,5 +99,22 @@ pub one_less : (K : List Shape) (P : Shape → Type 0) (i : ℕ) (Q : Shape) →
     → (k : ℕ) (R : Shape) → i ≤ k → slice_get K k ≡ Some R → P R
 one_less K P i Q here behind p k R le at = elim (cases_eq k i) [
   | inl e ↦ subst P (some_same Q R (sym here ∙ ap (slice_get K) (sym e) ∙ at)) p
+  | inr ne ↦ behind k R (omega arith) at
+]
+
+-- the same, where it holds of whatever key stands at the place
+pub all_up_to : (K : List Shape) (P : Shape → Type 0) (i : ℕ)
+    → ((k : ℕ) (R : Shape) → k < i → slice_get K k ≡ Some R → P R) → ((R : Shape) → slice_get K i ≡ Some R → P R)
+    → (k : ℕ) (R : Shape) → k < i + 1 → slice_get K k ≡ Some R → P R
+all_up_to K P i before here k R lt at = elim (cases_eq k i) [
+  | inl e ↦ here R (ap (slice_get K) (sym e) ∙ at)
+  | inr ne ↦ before k R (omega arith) at
+]
+
+pub all_from : (K : List Shape) (P : Shape → Type 0) (i : ℕ)
+    → ((k : ℕ) (R : Shape) → i + 1 ≤ k → slice_get K k ≡ Some R → P R) → ((R : Shape) → slice_get K i ≡ Some R → P R)
+    → (k : ℕ) (R : Shape) → i ≤ k → slice_get K k ≡ Some R → P R
+all_from K P i behind here k R le at = elim (cases_eq k i) [
+  | inl e ↦ here R (ap (slice_get K) (sym e) ∙ at)
   | inr ne ↦ behind k R (omega arith) at
 ]

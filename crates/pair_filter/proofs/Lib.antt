@@ -1,3 +1,4 @@
 mod Idle
 mod Steps
 mod Selections
+mod Linked

@@ -32,7 +32,7 @@ module _ (G : NumberedGraph) (Q : Shape) where
   right_here s u w h slot at = let x = h slot at in (x.1, x.1, itself slot w)
 
   -- what is paired with any number is paired with itself
-  left_paired : (d s u w : ℕ) → ArePaired G Q d s u w → ArePaired G Q d s u u
+  pub left_paired : (d s u w : ℕ) → ArePaired G Q d s u w → ArePaired G Q d s u u
   left_paired zero s u w h = left_here s u w h
   left_paired (suc d) s u w h = (
     left_here s u w h.0,
@@ -40,7 +40,7 @@ module _ (G : NumberedGraph) (Q : Shape) where
     (λ k x lt at. let r = h.2 k x lt at in (r.0, r.0, left_paired d (get_or Q.edges k x).from r.0 r.1 r.2, r.3, r.3)),
   )
 
-  right_paired : (d s u w : ℕ) → ArePaired G Q d s u w → ArePaired G Q d s w w
+  pub right_paired : (d s u w : ℕ) → ArePaired G Q d s u w → ArePaired G Q d s w w
   right_paired zero s u w h = right_here s u w h
   right_paired (suc d) s u w h = (
     right_here s u w h.0,
@@ -49,7 +49,7 @@ module _ (G : NumberedGraph) (Q : Shape) where
   )
 
   -- what is paired is paired here
-  here_of : (d s u w : ℕ) → ArePaired G Q d s u w → PairedHere G Q s u w
+  pub here_of : (d s u w : ℕ) → ArePaired G Q d s u w → PairedHere G Q s u w
   here_of zero s u w h = h
   here_of (suc d) s u w h = h.0
 

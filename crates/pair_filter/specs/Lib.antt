@@ -5,3 +5,4 @@ pub mod Keys
 pub mod Along
 pub mod Telling
 pub mod Reaching
+pub mod Known

@@ -10,6 +10,7 @@ ghost use Rattle.pair_filter.specs.Keys.{AreKeysOf};
 ghost use Rattle.pair_filter.specs.Selection.{IsSelection};
 
 use crate::keys::keys_of;
+use crate::memo::Memo;
 use crate::reach::{all_keys, reach_along};
 use chase_laws::Pattern;
 use chase_laws::laws::law_paired;
@@ -43,12 +44,13 @@ fn keep_alone(
     let mut kept = Vec::new(alloc);
     let mut keys = Vec::new(alloc);
     let mut reach = all_keys(patterns, 0);
+    let mut memo = Memo::new(alloc, graph.names(), patterns.len(), pairs.len())?;
     for place in 0..pairs.len() {
         let pair = pairs[place];
         if reach.name != pair.0 {
-            reach = reach_along(graph, patterns, pair.0, &pairs[place..]);
+            reach = reach_along(graph, patterns, pair.0, &pairs[place..], &memo);
         }
-        let Some(range) = keys_of(graph, patterns, &reach, pair) else {
+        let Some(range) = keys_of(graph, patterns, &reach, pair, &mut memo) else {
             continue;
         };
         kept.push(pair)?;

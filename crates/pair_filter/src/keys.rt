@@ -1,15 +1,17 @@
 //! Which keys may identify two names: those from the first that pairs them to the last.
 
-ghost use Rattle.std.specs.Prelude.{◌≡◌, ◌<◌, ◌≤◌, ◌-◌, ◌↔◌, ℕ, IsTrue, IsFalse, IsSome, IfSome, IfNone, Some, slice_get};
+ghost use Rattle.std.specs.Prelude.{◌≡◌, ◌<◌, ◌≤◌, ◌-◌, ◌↔◌, ℕ, IsTrue, IsFalse, IsSome, IfSome, IfNone, Some, length, slice_get};
 ghost use Rattle.chase_laws.specs.declared.pattern.Slot.TheVariants.{Entity};
 ghost use Rattle.chase_laws.specs.Shape.{Shape};
 ghost use Rattle.chase_laws.specs.Pairing.{PairedHere, ArePairedBy};
 ghost use Rattle.chase_laws.specs.Valuation.{FitsSlot};
 ghost use Rattle.paired_search.specs.KeyRange.{IsIdle, IsWithin};
 ghost use Rattle.pair_filter.specs.Keys.{ArePairedUnder, ArePairedAt, AreKeysOf};
+ghost use Rattle.pair_filter.specs.Known.{IsMemo};
 ghost use Rattle.pair_filter.specs.Reaching.{IsReach};
 ghost use Rattle.pair_filter.specs.Telling.{IsRuledOut};
 
+use crate::memo::Memo;
 use crate::paired::are_paired_along;
 use crate::reach::Reach;
 use chase_laws::{Pattern, Slot};
@@ -60,17 +62,57 @@ fn are_paired_by(
     is_kept_by(graph, pattern, pair.0, pair.1)
 }
 
+/// Whether the key at a place pairs two names to depth 2. What is known from pairs before is not asked again, and in a long run of
+/// pairs what this one tells is kept.
+fn are_paired_at(
+    graph: &Graph,
+    patterns: &[Pattern],
+    reach: &Reach,
+    key: usize,
+    pair: (u32, u32),
+    memo: &mut Memo,
+    missing: &mut Option<u32>,
+) -> bool
+    requires key { key < length patterns.now }
+    requires memo { IsMemo graph.now patterns.now memo.old }
+    requires missing { (t : ℕ) → missing.old ≡ Some t → ¬ (FitsSlot graph.now (Entity t) pair.0 × FitsSlot graph.now (Entity t) pair.1) }
+    ensures paired { IsTrue result → ArePairedAt graph.now patterns.now key pair.0 pair.1 }
+    ensures ruled_out { IsFalse result → (Q : Shape) → slice_get patterns.now key ≡ Some Q → IsRuledOut graph.now Q pair.0 pair.1 }
+    ensures missing { (t : ℕ) → missing.new ≡ Some t → ¬ (FitsSlot graph.now (Entity t) pair.0 × FitsSlot graph.now (Entity t) pair.1) }
+    ensures memo { IsMemo graph.now patterns.now memo.new }
+{
+    let pattern = &patterns[key];
+    if let Some(known) = memo.answer(key, pair) {
+        // A fact for the proof: slot 0 is an entity variable.
+        let _ = pattern.designated_type();
+        return known;
+    }
+    let paired = are_paired_by(graph, pattern, pair, missing);
+    if reach.is_long {
+        memo.learn(graph, patterns, key, pair, paired);
+    }
+    paired
+}
+
 /// The place of the first key that pairs two names. Only keys that the first name is in reach of are asked.
-fn first_key(graph: &Graph, patterns: &[Pattern], reach: &Reach, pair: (u32, u32)) -> Option<usize>
+fn first_key(
+    graph: &Graph,
+    patterns: &[Pattern],
+    reach: &Reach,
+    pair: (u32, u32),
+    memo: &mut Memo,
+) -> Option<usize>
     requires reach { IsReach graph.now patterns.now reach.now }
     requires name { reach.now.name ≡ pair.0 }
+    requires memo { IsMemo graph.now patterns.now memo.old }
+    ensures memo { IsMemo graph.now patterns.now memo.new }
     ensures paired { IfSome result (λ key. ArePairedAt graph.now patterns.now key pair.0 pair.1) }
     ensures first { IfSome result (λ first. (key : ℕ) (Q : Shape) → key < first → slice_get patterns.now key ≡ Some Q → IsIdle graph.now Q pair.0 pair.1) }
     ensures none { IfNone result (¬ (ArePairedBy graph.now patterns.now 2 pair.0 pair.1)) }
 {
     let mut missing = None;
     for key in reach.first..reach.end {
-        if are_paired_by(graph, &patterns[key], pair, &mut missing) {
+        if are_paired_at(graph, patterns, reach, key, pair, memo, &mut missing) {
             return Some(key);
         }
     }
@@ -84,10 +126,13 @@ fn end_key(
     reach: &Reach,
     pair: (u32, u32),
     first: usize,
+    memo: &mut Memo,
 ) -> usize
     requires reach { IsReach graph.now patterns.now reach.now }
     requires name { reach.now.name ≡ pair.0 }
+    requires memo { IsMemo graph.now patterns.now memo.old }
     requires first { ArePairedAt graph.now patterns.now first pair.0 pair.1 }
+    ensures memo { IsMemo graph.now patterns.now memo.new }
     ensures behind { first < result }
     ensures paired { ArePairedAt graph.now patterns.now (result - 1) pair.0 pair.1 }
     ensures last { (key : ℕ) (Q : Shape) → result ≤ key → slice_get patterns.now key ≡ Some Q → IsIdle graph.now Q pair.0 pair.1 }
@@ -95,7 +140,7 @@ fn end_key(
     let mut missing = None;
     let behind = first + 1;
     for key in (behind..reach.end).rev() {
-        if are_paired_by(graph, &patterns[key], pair, &mut missing) {
+        if are_paired_at(graph, patterns, reach, key, pair, memo, &mut missing) {
             return key + 1;
         }
     }
@@ -122,13 +167,16 @@ pub(crate) fn keys_of(
     patterns: &[Pattern],
     reach: &Reach,
     pair: (u32, u32),
+    memo: &mut Memo,
 ) -> Option<KeyRange>
     requires reach { IsReach graph.now patterns.now reach.now }
     requires name { reach.now.name ≡ pair.0 }
+    requires memo { IsMemo graph.now patterns.now memo.old }
+    ensures memo { IsMemo graph.now patterns.now memo.new }
     ensures paired { IsSome result ↔ ArePairedBy graph.now patterns.now 2 pair.0 pair.1 }
     ensures keys { IfSome result (λ range. AreKeysOf graph.now patterns.now range pair.0 pair.1) }
 {
-    let first = first_key(graph, patterns, reach, pair)?;
-    let end = end_key(graph, patterns, reach, pair, first);
+    let first = first_key(graph, patterns, reach, pair, memo)?;
+    let end = end_key(graph, patterns, reach, pair, first, memo);
     Some(range_from(first, end))
 }

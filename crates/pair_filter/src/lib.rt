@@ -7,6 +7,9 @@
 //!
 //! - `keeping`: which pairs are kept
 //! - `keys`: which keys may identify two names
+//! - `memo`: what is known of names under each key from pairs before
+//! - `peers`: the same under one key
+//! - `links`: names through which a key pairs all that it pairs with them
 //! - `reach`: which keys may pair a name with any other
 //! - `paired`: whether a key pairs two names
 //! - `alone`: whether a key pairs a name with itself, which it does wherever it pairs it with any
@@ -18,8 +21,11 @@ mod alone;
 mod here;
 mod keeping;
 mod keys;
+mod links;
+mod memo;
 mod paired;
 mod parts;
+mod peers;
 mod reach;
 
 pub use keeping::{KeptPairs, keep, keep_with_keys};

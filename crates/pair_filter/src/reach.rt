@@ -8,11 +8,12 @@ ghost use Rattle.pair_filter.specs.Reaching.{IsReach, PairsWithNone};
 
 use crate::alone::is_alone;
 use crate::keys::DEPTH;
+use crate::memo::Memo;
 use chase_laws::Pattern;
 use typed_graph::Graph;
 
 /// In a run of no more pairs than these it costs more than it saves to ask first which keys may pair the first name.
-const RUN: usize = 4;
+const RUN: usize = 2;
 
 /// The keys that may pair a name with another: none outside of the places `first..end` does.
 #[derive(Clone, Copy)]
@@ -20,6 +21,8 @@ pub(crate) struct Reach {
     pub name: u32,
     pub first: usize,
     pub end: usize,
+    /// Whether the name is first in a long run of pairs, so that it pays to keep what they tell.
+    pub is_long: bool,
 }
 
 /// All keys, for any name: nothing is asked of it.
@@ -31,26 +34,31 @@ pub(crate) fn all_keys(patterns: &[Pattern], name: u32) -> Reach
         name,
         first: 0,
         end: patterns.len(),
+        is_long: false,
     }
 }
 
-/// Whether a key pairs a name with itself to depth 2. Where it does not, it pairs it with no name.
-fn may_pair(graph: &Graph, pattern: &Pattern, name: u32) -> bool
+/// Whether a key pairs a name with itself to depth 2. Where it does not, it pairs it with no name. It is not asked where it is known
+/// to.
+fn may_pair(graph: &Graph, pattern: &Pattern, name: u32, is_known: bool) -> bool
     ensures { IsFalse result → PairsWithNone graph.now pattern.now name }
 {
+    if is_known {
+        return true;
+    }
     // A fact for the proof: slot 0 is an entity variable.
     let _ = pattern.designated_type();
     is_alone(graph, pattern, None, DEPTH, 0, name)
 }
 
 /// The place of the first key that may pair a name with another.
-fn first_place(graph: &Graph, patterns: &[Pattern], name: u32) -> Option<usize>
+fn first_place(graph: &Graph, patterns: &[Pattern], name: u32, memo: &Memo) -> Option<usize>
     ensures within { IfSome result (λ first. first < length patterns.now) }
     ensures before { IfSome result (λ first. (key : ℕ) (Q : Shape) → key < first → slice_get patterns.now key ≡ Some Q → PairsWithNone graph.now Q name) }
     ensures none { IfNone result ((key : ℕ) (Q : Shape) → slice_get patterns.now key ≡ Some Q → PairsWithNone graph.now Q name) }
 {
     for key in 0..patterns.len() {
-        if may_pair(graph, &patterns[key], name) {
+        if may_pair(graph, &patterns[key], name, memo.is_paired(key, name)) {
             return Some(key);
         }
     }
@@ -58,14 +66,14 @@ fn first_place(graph: &Graph, patterns: &[Pattern], name: u32) -> Option<usize>
 }
 
 /// The place behind the last key that may, where the first is known. It is looked for from the back.
-fn end_place(graph: &Graph, patterns: &[Pattern], name: u32, first: usize) -> usize
+fn end_place(graph: &Graph, patterns: &[Pattern], name: u32, memo: &Memo, first: usize) -> usize
     requires { first < length patterns.now }
     ensures within { result ≤ length patterns.now }
     ensures behind { (key : ℕ) (Q : Shape) → result ≤ key → slice_get patterns.now key ≡ Some Q → PairsWithNone graph.now Q name }
 {
     let behind = first + 1;
     for key in (behind..patterns.len()).rev() {
-        if may_pair(graph, &patterns[key], name) {
+        if may_pair(graph, &patterns[key], name, memo.is_paired(key, name)) {
             return key + 1;
         }
     }
@@ -73,19 +81,25 @@ fn end_place(graph: &Graph, patterns: &[Pattern], name: u32, first: usize) -> us
 }
 
 /// The keys from the first that may pair a name with another to the last; none where no key may.
-fn reach_of(graph: &Graph, patterns: &[Pattern], name: u32) -> Reach
+fn reach_of(graph: &Graph, patterns: &[Pattern], name: u32, memo: &Memo) -> Reach
     ensures reach { IsReach graph.now patterns.now result }
     ensures name { result.name ≡ name }
 {
-    let Some(first) = first_place(graph, patterns, name) else {
+    let Some(first) = first_place(graph, patterns, name, memo) else {
         return Reach {
             name,
             first: 0,
             end: 0,
+            is_long: true,
         };
     };
-    let end = end_place(graph, patterns, name, first);
-    Reach { name, first, end }
+    let end = end_place(graph, patterns, name, memo, first);
+    Reach {
+        name,
+        first,
+        end,
+        is_long: true,
+    }
 }
 
 /// The same for the name that is first in the first of some pairs, where a long enough run of them has it; else all keys.
@@ -96,12 +110,13 @@ pub(crate) fn reach_along(
     patterns: &[Pattern],
     name: u32,
     pairs: &[(u32, u32)],
+    memo: &Memo,
 ) -> Reach
     ensures reach { IsReach graph.now patterns.now result }
     ensures name { result.name ≡ name }
 {
     if pairs.len() > RUN && pairs[RUN].0 == name {
-        reach_of(graph, patterns, name)
+        reach_of(graph, patterns, name, memo)
     } else {
         all_keys(patterns, name)
     }

@@ -14,6 +14,7 @@ loop-place-init c = record {
   kept = c.new-kept.ensures.items;
   keys = rw (c.new-kept.ensures.items, c.new-keys.ensures.items) tt;
   reach = c.all_keys-reach.ensures.reach c.args.graph.now;
+  memo = c.in_ok-memo.ensures c.args.graph.now c.args.patterns.now;
 }
 
 -- a pair that is not kept
@@ -31,6 +32,7 @@ loop-place-preserved-in_default c =
         | then-reach-pair w ↦ rw w.reach-is w.reach_along-reach.ensures.reach
         | else-reach-pair w ↦ rw w.reach-is c.loop-place.invariant.reach
       ];
+      memo = c.in_default.ensures.memo;
     }
 
 -- one that is
@@ -50,4 +52,5 @@ loop-place-preserved c =
         | then-reach-pair w ↦ rw w.reach-is w.reach_along-reach.ensures.reach
         | else-reach-pair w ↦ rw w.reach-is c.loop-place.invariant.reach
       ];
+      memo = c.in-Some.ensures.memo;
     }
