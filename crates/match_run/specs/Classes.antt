@@ -3,7 +3,8 @@ use Rattle.std.specs.Prelude.{List, ℕ, ◌≡◌, ◌↔◌, ◌<◌, length, 
 use Rattle.chase_laws.specs.declared.entry.Entry.{Entry}
 use Rattle.chase_laws.specs.Shape.{Shape}
 use Rattle.chase_laws.specs.Graph.{NumberedGraph}
-use Rattle.chase_laws.specs.Chase.{IsDerivation, IsLean, IsClosed, AreSame}
+use Rattle.chase_laws.specs.Chase.{IsStep, IsDerivation, IsLean, IsClosed, AreSame}
+use Rattle.chase_laws.specs.Joined.{Joined}
 
 -- one label for each name, equal exactly where two names are the same
 pub record AreClasses (G : NumberedGraph) (K : List Shape) (labels : List ℕ) : Type 0 where
@@ -15,3 +16,11 @@ pub record IsFinishedJournal (G : NumberedGraph) (K : List Shape) (journal : Lis
   pub derivation : IsDerivation G K journal
   pub lean : IsLean journal
   pub closed : IsClosed G K journal
+
+-- each step from what the first list joins is of names that the second one joins
+abbrev pub JoinsStepsOf : NumberedGraph → List Shape → List Entry → List Entry → Type 0
+JoinsStepsOf G K H journal = (e : Entry) → IsStep G K H e → Joined journal e.a e.b
+
+-- the journal joins the same names as each that a finished chase may leave
+abbrev pub JoinsAsAll : NumberedGraph → List Shape → List Entry → Type 0
+JoinsAsAll G K journal = (other : List Entry) → IsFinishedJournal G K other → (a b : ℕ) → Joined journal a b ↔ Joined other a b

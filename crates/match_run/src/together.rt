@@ -2,12 +2,13 @@
 
 ghost use Rattle.std.specs.Prelude.{◌≡◌, ◌<◌, ◌≤◌, ◌++◌, List, All, Contains, IfOk, IfSome};
 ghost use Rattle.chase_laws.specs.declared.entry.Entry.{Entry};
-ghost use Rattle.match_run.specs.Classes.{AreClasses, IsFinishedJournal};
+ghost use Rattle.match_run.specs.Classes.{AreClasses, IsFinishedJournal, JoinsStepsOf, JoinsAsAll};
 ghost use Rattle.match_run.specs.Unmatched.{AreUnmatched};
 
 use crate::unmatched::{UnmatchedPairs, settle_taken, take_unmatched};
 use chase_core::{Chase, Matched, Setup, Woken};
 use chase_laws::core_law::law_core;
+use chase_laws::laws::{law_confluence, law_joined, law_step_grows};
 use gk_base::NoMemory;
 use std::alloc::Global;
 use std::sync::Wait;
@@ -60,7 +61,8 @@ fn chase_and_settle<G: Gate, R: Threads + Wait + Sync>(
 /// than there are pairs, but at least one. The labels are equal exactly where two names are the same, and the journal is a
 /// lean derivation that no step goes beyond, over the pairs of the setup; it begins with that of the chase. Each worker
 /// passes the gate before each search, and so does each of as many threads that look, where there are many pairs, for those that
-/// nothing can match, before the crew begins. Only want of memory stops it, before any other search.
+/// nothing can match, before the crew begins. Only want of memory stops it, before any other search. Whatever could be
+/// identified next when it began is joined when it ends.
 pub fn chase_on<R: Threads + Wait + Sync, G: Gate>(
     rt: &R,
     alloc: Global,
@@ -73,7 +75,11 @@ pub fn chase_on<R: Threads + Wait + Sync, G: Gate>(
     ensures journal { IfOk result (λ m. IsFinishedJournal made.entry.setup.task.graph made.entry.setup.task.patterns m.journal.items) }
     ensures ends { IfOk result (λ m. All (λ e. Contains made.entry.setup.task.pairs (e.a, e.b)) m.journal.items) }
     ensures begins { IfOk result (λ m. (more : List Entry) × (m.journal.items ≡ made.entry.book.journal ++ more)) }
+    ensures steps { IfOk result (λ m. JoinsStepsOf made.entry.setup.task.graph made.entry.setup.task.patterns made.entry.book.journal m.journal.items) }
 {
+    // Facts for the proof: a step stays one as the journal goes on.
+    law_step_grows();
+    law_joined();
     let pairs = made.setup().pairs().len() as u32;
     let workers = workers.min(pairs.max(1));
     let mut woken = Woken::new(alloc, 0)?;
@@ -83,7 +89,8 @@ pub fn chase_on<R: Threads + Wait + Sync, G: Gate>(
     Ok(chase_and_settle(rt, crew, &taken, &mut woken, gate))
 }
 
-/// Runs a new chase over a setup to its end, as `chase_on` does one that has begun.
+/// Runs a new chase over a setup to its end, as `chase_on` does one that has begun. Whoever chases the same graph by the same
+/// keys to its end, in whatever order and over whatever pairs, joins the same names.
 pub fn chase_setup<R: Threads + Wait + Sync, G: Gate>(
     rt: &R,
     alloc: Global,
@@ -95,7 +102,10 @@ pub fn chase_setup<R: Threads + Wait + Sync, G: Gate>(
     ensures classes { IfOk result (λ m. AreClasses setup.now.task.graph setup.now.task.patterns m.labels.items) }
     ensures journal { IfOk result (λ m. IsFinishedJournal setup.now.task.graph setup.now.task.patterns m.journal.items) }
     ensures ends { IfOk result (λ m. All (λ e. Contains setup.now.task.pairs (e.a, e.b)) m.journal.items) }
+    ensures same_joined { IfOk result (λ m. JoinsAsAll setup.now.task.graph setup.now.task.patterns m.journal.items) }
 {
+    // A fact for the proof: the order of steps is of no account.
+    law_confluence();
     let made = Chase::new(alloc, setup)?;
     chase_on(rt, alloc, made, workers, gate)
 }
