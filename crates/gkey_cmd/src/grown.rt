@@ -54,7 +54,7 @@ fn grown_report<Rt: Threads + Wait + Sync, G: Gate>(
         workers,
         gate,
     )?;
-    let report = report(alloc, &growth.names, &grown.now.labels)?;
+    let report = report(rt, alloc, workers, &growth.names, &grown.now.labels)?;
     Ok(report.into_vec())
 }
 

@@ -49,7 +49,7 @@ fn report_of<Rt: Threads + Wait + Sync, G: Gate>(
         workers,
         gate,
     )?;
-    let report = report(alloc, &numbered.names, &labels)?;
+    let report = report(rt, alloc, workers, &numbered.names, &labels)?;
     Ok(report.into_vec())
 }
 

@@ -1,5 +1,5 @@
 -- A step of choosing the names whose labels pass a test.
-use Rattle.std.proofs.Common.{◌≡◌, ℕ, ◌+◌, zero, suc, Bool, true, false, cond, List, [], ◌∷◌, ◌++◌, map, sym, ap, ◌∙◌, arith, zero-add, add-zero, append-nil}
+use Rattle.std.proofs.Common.{◌≡◌, ℕ, ◌+◌, ◌-◌, ◌≤◌, zero, suc, Bool, true, false, cond, List, [], ◌∷◌, ◌++◌, map, sym, ap, ◌∙◌, arith, zero-add, add-zero, append-nil}
 use Rattle.std.proofs.lemmas.List.{map-append}
 use Rattle.std.proofs.lemmas.List.Elements.{filter-append}
 use Rattle.std.specs.List.{filter, range_with_len}
@@ -13,18 +13,42 @@ range_push a (suc n) =
     ∙ (ap (λ (l : List ℕ). a ∷ l) (range_push (a + 1) n)
     ∙ ap (λ (v : ℕ). (a ∷ range_with_len (a + 1) n) ++ v ∷ []) shorter)
 
-chosen_push : {X : Type 0} (f : ℕ → X) (p : ℕ → Bool) (n : ℕ) → map f (filter p (range_with_len 0 (n + 1))) ≡ map f (filter p (range_with_len 0 n)) ++ map f (cond (p n) (n ∷ []) [])
-chosen_push f p n =
-    ap (λ l. map f (filter p l)) (range_push 0 n ∙ ap (λ (v : ℕ). range_with_len 0 n ++ v ∷ []) (zero-add n))
-    ∙ (ap (map f) (filter-append p (range_with_len 0 n) (n ∷ []))
-    ∙ map-append f (filter p (range_with_len 0 n)) (cond (p n) (n ∷ []) []))
+-- two ranges of which the second goes on where the first ends
+pub range_join : (a m n : ℕ) → range_with_len a m ++ range_with_len (a + m) n ≡ range_with_len a (m + n)
+range_join a zero n = ap (λ k. range_with_len k n) (add-zero a) ∙ ap (range_with_len a) (sym (zero-add n))
+range_join a (suc m) n =
+    let start : a + suc m ≡ (a + 1) + m = omega arith in
+    let longer : suc m + n ≡ suc (m + n) = omega arith in
+    ap (λ k. a ∷ (range_with_len (a + 1) m ++ range_with_len k n)) start
+    ∙ (ap (λ (l : List ℕ). a ∷ l) (range_join (a + 1) m n) ∙ ap (range_with_len a) (sym longer))
 
-pub chosen_yes : {X : Type 0} (f : ℕ → X) (p : ℕ → Bool) (n : ℕ) (x : X) (old new : List X) → p n ≡ true → x ≡ f n → new ≡ old ++ x ∷ [] → old ≡ map f (filter p (range_with_len 0 n)) → new ≡ map f (filter p (range_with_len 0 (n + 1)))
-chosen_yes f p n x old new passes is grown all =
-    grown ∙ (ap (λ l. l ++ x ∷ []) all ∙ (ap (λ v. map f (filter p (range_with_len 0 n)) ++ v ∷ []) is
-    ∙ (ap (λ b. map f (filter p (range_with_len 0 n)) ++ map f (cond b (n ∷ []) [])) (sym passes) ∙ sym (chosen_push f p n))))
+-- what is chosen from the two together
+pub chosen_join : {X : Type 0} (f : ℕ → X) (p : ℕ → Bool) (a middle end : ℕ) → a ≤ middle → middle ≤ end
+    → map f (filter p (range_with_len a (middle - a))) ++ map f (filter p (range_with_len middle (end - middle))) ≡ map f (filter p (range_with_len a (end - a)))
+chosen_join f p a middle end le le' =
+    let start : middle ≡ a + (middle - a) = omega arith in
+    let both : (middle - a) + (end - middle) ≡ end - a = omega arith in
+    sym (map-append f (filter p (range_with_len a (middle - a))) (filter p (range_with_len middle (end - middle))))
+    ∙ (ap (map f) (sym (filter-append p (range_with_len a (middle - a)) (range_with_len middle (end - middle))))
+    ∙ ap (λ l. map f (filter p l)) (ap (λ k. range_with_len a (middle - a) ++ range_with_len k (end - middle)) start ∙ (range_join a (middle - a) (end - middle) ∙ ap (range_with_len a) both)))
 
-pub chosen_no : {X : Type 0} (f : ℕ → X) (p : ℕ → Bool) (n : ℕ) (old : List X) → p n ≡ false → old ≡ map f (filter p (range_with_len 0 n)) → old ≡ map f (filter p (range_with_len 0 (n + 1)))
-chosen_no f p n old fails all =
-    all ∙ (sym (append-nil (map f (filter p (range_with_len 0 n))))
-    ∙ (ap (λ b. map f (filter p (range_with_len 0 n)) ++ map f (cond b (n ∷ []) [])) (sym fails) ∙ sym (chosen_push f p n)))
+chosen_push : {X : Type 0} (f : ℕ → X) (p : ℕ → Bool) (a place : ℕ) → a ≤ place
+    → map f (filter p (range_with_len a (place + 1 - a))) ≡ map f (filter p (range_with_len a (place - a))) ++ map f (cond (p place) (place ∷ []) [])
+chosen_push f p a place le =
+    let longer : place + 1 - a ≡ (place - a) + 1 = omega arith in
+    let last : a + (place - a) ≡ place = omega arith in
+    ap (λ l. map f (filter p l)) (ap (range_with_len a) longer ∙ (range_push a (place - a) ∙ ap (λ (v : ℕ). range_with_len a (place - a) ++ v ∷ []) last))
+    ∙ (ap (map f) (filter-append p (range_with_len a (place - a)) (place ∷ []))
+    ∙ map-append f (filter p (range_with_len a (place - a))) (cond (p place) (place ∷ []) []))
+
+pub chosen_yes : {X : Type 0} (f : ℕ → X) (p : ℕ → Bool) (a place : ℕ) (x : X) (old new : List X) → a ≤ place → p place ≡ true → x ≡ f place → new ≡ old ++ x ∷ []
+    → old ≡ map f (filter p (range_with_len a (place - a))) → new ≡ map f (filter p (range_with_len a (place + 1 - a)))
+chosen_yes f p a place x old new le passes is grown all =
+    grown ∙ (ap (λ l. l ++ x ∷ []) all ∙ (ap (λ v. map f (filter p (range_with_len a (place - a))) ++ v ∷ []) is
+    ∙ (ap (λ b. map f (filter p (range_with_len a (place - a))) ++ map f (cond b (place ∷ []) [])) (sym passes) ∙ sym (chosen_push f p a place le))))
+
+pub chosen_no : {X : Type 0} (f : ℕ → X) (p : ℕ → Bool) (a place : ℕ) (old : List X) → a ≤ place → p place ≡ false
+    → old ≡ map f (filter p (range_with_len a (place - a))) → old ≡ map f (filter p (range_with_len a (place + 1 - a)))
+chosen_no f p a place old le fails all =
+    all ∙ (sym (append-nil (map f (filter p (range_with_len a (place - a)))))
+    ∙ (ap (λ b. map f (filter p (range_with_len a (place - a))) ++ map f (cond b (place ∷ []) [])) (sym fails) ∙ sym (chosen_push f p a place le)))

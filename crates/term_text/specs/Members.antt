@@ -20,6 +20,10 @@ chosen test labels = filter (λ n. test (slice_index labels n)) (range_with_len 
 abbrev pub members_for : List (List ℕ) → List ℕ → (ℕ → Bool) → List Member
 members_for texts labels test = map (member_at texts labels) (chosen test labels)
 
+-- the members that stand for those of so many names from a number on
+abbrev pub members_within : List (List ℕ) → List ℕ → (ℕ → Bool) → ℕ → ℕ → List Member
+members_within texts labels test from count = map (member_at texts labels) (filter (λ n. test (slice_index labels n)) (range_with_len from count))
+
 -- whether the text of one member is below that of another, by bytes
 abbrev pub is_before : Member → Member → Bool
 is_before a b = is_lt (slice_cmp nat_cmp a.text b.text)

@@ -12,26 +12,40 @@ use crate::links::link;
 use crate::member::{Member, members_of_names, sort_by_text};
 use gk_base::NoMemory;
 use std::alloc::Global;
+use std::thread::Threads;
 use term_table::Names;
 
 /// The report of the classes of names with equal labels: one line for each class of two or more, with the members'
 /// canonical texts in the order of their bytes and single spaces between them. The lines are in the order of their
-/// first members. A label may be any number; labels below the number of names cost least.
-pub fn report(alloc: Global, names: &Names, labels: &[u32]) -> Result<Report, NoMemory>
+/// first members. A label may be any number; labels below the number of names cost least. `threads` says how many threads may
+/// be used, the caller's among them; the report is the same.
+pub fn report<R: Threads + Sync>(
+    rt: &R,
+    alloc: Global,
+    threads: u32,
+    names: &Names,
+    labels: &[u32],
+) -> Result<Report, NoMemory>
     requires { length labels.now ≡ length names.now }
     ensures { IfOk result (λ r. r ≡ report_text (texts_of names.now)
         (λ a b. slice_index labels.now a == slice_index labels.now b)) }
 {
     let counts = LabelCounts::of_labels(alloc, labels)?;
-    report_of_members(alloc, members_of_names(alloc, names, labels, &counts)?)
+    let mut members = members_of_names(rt, alloc, threads, names, labels, &counts)?;
+    report_of_members(rt, alloc, threads, &mut members)
 }
 
-/// The report of these members, which come by number.
-fn report_of_members(alloc: Global, mut members: Vec<Member>) -> Result<Report, NoMemory>
-    ensures { IfOk result (λ r. Prints members.items r) }
+/// The report of these members, which come by number. It leaves them in the order of their texts.
+fn report_of_members<R: Threads + Sync>(
+    rt: &R,
+    alloc: Global,
+    threads: u32,
+    members: &mut [Member],
+) -> Result<Report, NoMemory>
+    ensures { IfOk result (λ r. Prints members.old r) }
 {
-    sort_by_text(&mut members)?;
-    let links = link(alloc, &members)?;
-    let bytes = class_lines(alloc, &members, &links)?;
+    sort_by_text(rt, alloc, threads, members)?;
+    let links = link(alloc, members)?;
+    let bytes = class_lines(alloc, members, &links)?;
     Ok(Report::from_vec(bytes))
 }

@@ -1,6 +1,7 @@
 use crate::sample::Sample;
 use gk_base::{Term, Triple};
 use std::process::Abort;
+use std::thread::Threads;
 use term_table::Names;
 use term_text::{Report, put_term, put_triple, report};
 
@@ -90,9 +91,14 @@ fn four_names<R: AllocGlobal + Abort>(rt: &R) -> Names {
 }
 
 /// The report of names with these labels. It promises nothing, so that the proof of the test has little to carry.
-fn reported<R: AllocGlobal + Abort>(rt: &R, names: &Names, labels: &[u32]) -> Report {
+fn reported<R: AllocGlobal + Abort + Threads + Sync>(
+    rt: &R,
+    threads: u32,
+    names: &Names,
+    labels: &[u32],
+) -> Report {
     assert_eq!(rt; names.len() as usize, labels.len());
-    report(rt.alloc(), names, labels).expect(rt, "enough memory")
+    report(rt, rt.alloc(), threads, names, labels).expect(rt, "enough memory")
 }
 
 /// The report has this text, lent and given away.
@@ -106,6 +112,8 @@ fn the_report_prints_shared_labels_by_text(rt: HostRuntime) {
     let names = four_names(&rt);
     assert_eq!(rt; names.len(), 4);
     for (labels, expected) in reports() {
-        expect_text(&rt, reported(&rt, &names, labels), labels, expected);
+        for threads in [1, 4] {
+            expect_text(&rt, reported(&rt, threads, &names, labels), labels, expected);
+        }
     }
 }

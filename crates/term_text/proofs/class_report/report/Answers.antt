@@ -6,7 +6,7 @@ use Rattle.term_text.proofs.ReportLaw.{report_is}
 use Rattle.term_text.proofs.class_report.report.Goals as goal
 
 pub returns : goal.returns
-returns c =
+returns g c =
     IfOk-weaker c.report_of_members.result _ _
-    (λ bytes printed. report_is (texts_of c.args.names.now) c.args.labels.now c.in_ok-counts.counts (c.requires ∙ sym (length-map c.args.names.now term_text)) c.in_ok-counts.ensures c.in_ok-members_of_names.field-0.items c.in_ok-members_of_names.ensures bytes printed)
-    c.report_of_members.ensures
+    (λ bytes printed. report_is (texts_of c.args.names.now) c.args.labels.now c.in_ok-counts.counts (c.requires ∙ sym (length-map c.args.names.now term_text)) c.in_ok-counts.ensures c.in_ok-members.members.items c.in_ok-members.ensures bytes printed)
+    (rw c.deref_mut.ensures.value at c.report_of_members.ensures)

@@ -2,7 +2,7 @@ use Rattle.std.proofs.Common.{rules}
 use Rattle.std.proofs.lemmas.Fn.{always_returns_same}
 use Rattle.term_text.specs.Members.{is_before}
 use Rattle.term_text.proofs.MemberOrder.{before_is_order}
-use Rattle.term_text.proofs.member.sort_by_text.Goals as goal
+use Rattle.term_text.proofs.member.sort_alone.Goals as goal
 
 pub returns-clause-sorted : goal.returns-clause-sorted
 returns-clause-sorted c = c.in_ok-sort_by.ensures.sorted is_before before_is_order (always_returns_same _ _ _ (λ a r f' k. search rules))
