@@ -9,10 +9,10 @@ ghost use Rattle.pair_filter.specs.Reaching.{IsReach, PairsWithNone};
 use crate::alone::is_alone;
 use crate::keys::DEPTH;
 use crate::memo::Memo;
-use chase_laws::Pattern;
+use chase_laws::{Pattern, Slot};
 use typed_graph::Graph;
 
-/// In a run of no more pairs than these it costs more than it saves to ask first which keys may pair the first name.
+/// In a run of no more pairs than these it costs more than it saves to ask which keys pair the first name with itself.
 const RUN: usize = 2;
 
 /// The keys that may pair a name with another: none outside of the places `first..end` does.
@@ -38,27 +38,42 @@ pub(crate) fn all_keys(patterns: &[Pattern], name: u32) -> Reach
     }
 }
 
-/// Whether a key pairs a name with itself to depth 2. Where it does not, it pairs it with no name. It is not asked where it is known
-/// to.
-fn may_pair(graph: &Graph, pattern: &Pattern, name: u32, is_known: bool) -> bool
+/// Whether a key may pair a name with another: it designates a type of it and, if that is asked, pairs it with itself to depth 2.
+/// Where it does not, it pairs it with no name.
+fn may_pair(graph: &Graph, pattern: &Pattern, name: u32, is_asked: bool) -> bool
     ensures { IsFalse result → PairsWithNone graph.now pattern.now name }
 {
-    if is_known {
+    let designated = pattern.designated_type();
+    if !graph.fits_slot(Slot::Entity(designated), name) {
+        return false;
+    }
+    if !is_asked {
         return true;
     }
-    // A fact for the proof: slot 0 is an entity variable.
-    let _ = pattern.designated_type();
     is_alone(graph, pattern, None, DEPTH, 0, name)
 }
 
+/// Whether it is worth while to ask whether a key pairs a name with itself: the name is first in a long run of pairs, and it is not
+/// known.
+fn is_to_ask(is_long: bool, memo: &Memo, key: usize, name: u32) -> bool {
+    is_long && !memo.is_paired(key, name)
+}
+
 /// The place of the first key that may pair a name with another.
-fn first_place(graph: &Graph, patterns: &[Pattern], name: u32, memo: &Memo) -> Option<usize>
+fn first_place(
+    graph: &Graph,
+    patterns: &[Pattern],
+    name: u32,
+    is_long: bool,
+    memo: &Memo,
+) -> Option<usize>
     ensures within { IfSome result (λ first. first < length patterns.now) }
     ensures before { IfSome result (λ first. (key : ℕ) (Q : Shape) → key < first → slice_get patterns.now key ≡ Some Q → PairsWithNone graph.now Q name) }
     ensures none { IfNone result ((key : ℕ) (Q : Shape) → slice_get patterns.now key ≡ Some Q → PairsWithNone graph.now Q name) }
 {
     for key in 0..patterns.len() {
-        if may_pair(graph, &patterns[key], name, memo.is_paired(key, name)) {
+        let is_asked = is_to_ask(is_long, memo, key, name);
+        if may_pair(graph, &patterns[key], name, is_asked) {
             return Some(key);
         }
     }
@@ -66,14 +81,22 @@ fn first_place(graph: &Graph, patterns: &[Pattern], name: u32, memo: &Memo) -> O
 }
 
 /// The place behind the last key that may, where the first is known. It is looked for from the back.
-fn end_place(graph: &Graph, patterns: &[Pattern], name: u32, memo: &Memo, first: usize) -> usize
+fn end_place(
+    graph: &Graph,
+    patterns: &[Pattern],
+    name: u32,
+    is_long: bool,
+    memo: &Memo,
+    first: usize,
+) -> usize
     requires { first < length patterns.now }
     ensures within { result ≤ length patterns.now }
     ensures behind { (key : ℕ) (Q : Shape) → result ≤ key → slice_get patterns.now key ≡ Some Q → PairsWithNone graph.now Q name }
 {
     let behind = first + 1;
     for key in (behind..patterns.len()).rev() {
-        if may_pair(graph, &patterns[key], name, memo.is_paired(key, name)) {
+        let is_asked = is_to_ask(is_long, memo, key, name);
+        if may_pair(graph, &patterns[key], name, is_asked) {
             return key + 1;
         }
     }
@@ -81,30 +104,29 @@ fn end_place(graph: &Graph, patterns: &[Pattern], name: u32, memo: &Memo, first:
 }
 
 /// The keys from the first that may pair a name with another to the last; none where no key may.
-fn reach_of(graph: &Graph, patterns: &[Pattern], name: u32, memo: &Memo) -> Reach
+fn reach_of(graph: &Graph, patterns: &[Pattern], name: u32, is_long: bool, memo: &Memo) -> Reach
     ensures reach { IsReach graph.now patterns.now result }
     ensures name { result.name ≡ name }
 {
-    let Some(first) = first_place(graph, patterns, name, memo) else {
+    let Some(first) = first_place(graph, patterns, name, is_long, memo) else {
         return Reach {
             name,
             first: 0,
             end: 0,
-            is_long: true,
+            is_long,
         };
     };
-    let end = end_place(graph, patterns, name, memo, first);
+    let end = end_place(graph, patterns, name, is_long, memo, first);
     Reach {
         name,
         first,
         end,
-        is_long: true,
+        is_long,
     }
 }
 
-/// The same for the name that is first in the first of some pairs, where a long enough run of them has it; else all keys.
-/// That is seen from one pair farther on, as the pairs ascend. Where they do not, it may be guessed wrong, which costs time
-/// alone.
+/// The same for the name that is first in the first of some pairs. Whether a long run of them has it is seen from one pair farther
+/// on, as the pairs ascend. Where they do not, it may be guessed wrong, which costs time alone.
 pub(crate) fn reach_along(
     graph: &Graph,
     patterns: &[Pattern],
@@ -115,9 +137,6 @@ pub(crate) fn reach_along(
     ensures reach { IsReach graph.now patterns.now result }
     ensures name { result.name ≡ name }
 {
-    if pairs.len() > RUN && pairs[RUN].0 == name {
-        reach_of(graph, patterns, name, memo)
-    } else {
-        all_keys(patterns, name)
-    }
+    let is_long = pairs.len() > RUN && pairs[RUN].0 == name;
+    reach_of(graph, patterns, name, is_long, memo)
 }

@@ -1,7 +1,14 @@
 use Rattle.std.proofs.Common.{None, ◌∙◌, sym, true≢false}
-use Rattle.pair_filter.proofs.Idle.{unpaired_out}
+use Rattle.pair_filter.proofs.Idle.{missing_out, unpaired_out}
 use Rattle.pair_filter.proofs.Steps.{except_any, left_alone}
 use Rattle.pair_filter.proofs.reach.may_pair.Goals as goal
+
+-- a name that lacks the type is paired with none
+pub returns-then-not-fits_slot : goal.returns-then-not-fits_slot
+returns-then-not-fits_slot c = λ no other.
+    let t = c.designated_type-designated in
+    missing_out c.args.graph.now c.args.pattern.now c.args.name other t.result t.ensures
+    (λ both. true≢false (sym (c.fits_slot.ensures.1 both.0) ∙ c.if-not-fits_slot.true))
 
 -- what is paired with any name is paired with itself
 pub returns : goal.returns
@@ -9,5 +16,6 @@ returns c = λ no other.
     let G = c.args.graph.now in
     let Q = c.args.pattern.now in
     let name = c.args.name in
-    unpaired_out G Q name other c.designated_type.result c.designated_type.ensures
+    let t = c.designated_type-designated in
+    unpaired_out G Q name other t.result t.ensures
     (λ h. true≢false (sym (c.is_alone.ensures.1 (left_alone G Q None 2 0 name other (except_any G Q None 2 0 name other h.paired))) ∙ no))
