@@ -113,7 +113,12 @@ fn the_report_prints_shared_labels_by_text(rt: HostRuntime) {
     assert_eq!(rt; names.len(), 4);
     for (labels, expected) in reports() {
         for threads in [1, 4] {
-            expect_text(&rt, reported(&rt, threads, &names, labels), labels, expected);
+            expect_text(
+                &rt,
+                reported(&rt, threads, &names, labels),
+                labels,
+                expected,
+            );
         }
     }
 }
