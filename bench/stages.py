@@ -7,6 +7,8 @@ Usage: bench/stages.py [KIND SIZE ..]
 The kinds are those of bench/graphs.py. Times are seconds by the clock, each the least of three runs, which come in turn.
 `searches` are those of the chase by so many workers, with the looks for pairs that nothing can match: what goes beyond the kept
 pairs may match and was looked at first, or was searched again, because it was woken or because a label had changed meanwhile.
+In the row of 0 workers they are those of the thread alone. `woken` is how often an entry wakes a pair where one thread drains
+the chase, and `ns` the nanoseconds that the chase takes for each kept pair.
 `all` is the chase over all candidate pairs, none of them filtered and each searched by all keys: the filter pays where `filter`
 and `chase` are less together. `times` is how often the time of one worker holds that of so many, in the chase and in the whole
 run. At the end stands the load of the machine.
@@ -24,17 +26,18 @@ from timing import PROGRAM, built, planned, print_load
 
 NEEDS = ["match_run", "steal_pool", "chase_core", "pair_filter", "pair_seed", "graph_rows", "key_lang", "gk_io", "gk_base", "anyhow"]
 PROCESSORS = {0: "0", 1: "0", 2: "0,1", 4: "0-3"}  # by the number of workers
-PLAN = [("crowded", 10 ** 6), ("common", 10 ** 6), ("bibliography", 10 ** 6), ("missed", 10 ** 6), ("matched", 10 ** 6),
-        ("woken", 10 ** 6), ("chain", 10 ** 5), ("wide", 10 ** 5)]
-COLUMNS = "{:>13} {:>9} {:>4} {:>9} {:>9} {:>9} {:>8} {:>8} {:>8} {:>8} {:>8} {:>6} {:>6}"
+PLAN = [("crowded", 10 ** 5), ("crowded", 4 * 10 ** 5), ("crowded", 10 ** 6), ("common", 10 ** 6), ("bibliography", 10 ** 6),
+        ("missed", 10 ** 6), ("matched", 10 ** 6), ("woken", 10 ** 6), ("chain", 10 ** 5), ("linked", 10 ** 5), ("wide", 10 ** 5)]
+COLUMNS = "{:>13} {:>9} {:>4} {:>9} {:>9} {:>9} {:>8} {:>8} {:>8} {:>8} {:>8} {:>8} {:>6} {:>6} {:>6}"
 
 
 def stages(program, graph, keys, workers):
-    """Counts of pairs, kept pairs and searches, and the seconds of the candidates, the filter, the chase, and that over all."""
+    """Counts of pairs, kept pairs, searches and woken pairs, and the seconds of the candidates, the filter, the chase, and that over
+    all."""
     command = ["taskset", "-c", PROCESSORS[workers], str(program), str(graph), str(keys), str(workers)]
     kept, over_all = ([int(word) for word in subprocess.run([*command, which], check=True, capture_output=True, text=True).stdout.split()]
                       for which in ("kept", "all"))
-    return kept[:3], [microseconds / 1e6 for microseconds in (*kept[3:], over_all[5])]
+    return [*kept[:3], kept[6]], [microseconds / 1e6 for microseconds in (*kept[3:6], over_all[5])]
 
 
 def whole(graph, keys, workers):
@@ -51,7 +54,9 @@ def measure(program, folder, kind, size):
     least = {w: [min(run[w][1][stage] for run in runs) for stage in range(4)] + [min(run[w][2] for run in runs)] for w in PROCESSORS}
     for workers, seconds in least.items():
         times = (least[1][stage] / max(seconds[stage], 1e-6) for stage in (2, 4))
-        print(COLUMNS.format(kind, size, workers, *runs[0][workers][0], *(f"{s:.3f}" for s in seconds), *(f"{t:.2f}" for t in times)), flush=True)
+        counts = runs[0][workers][0]
+        each = round(seconds[2] * 1e9 / max(counts[1], 1))
+        print(COLUMNS.format(kind, size, workers, *counts, *(f"{s:.3f}" for s in seconds), each, *(f"{t:.2f}" for t in times)), flush=True)
 
 
 def main():
@@ -59,7 +64,8 @@ def main():
     with tempfile.TemporaryDirectory() as name:
         folder = pathlib.Path(name)
         program = build(folder, "stage_times", NEEDS)
-        print(COLUMNS.format("graph", "size", "by", "pairs", "kept", "searches", "seed", "filter", "chase", "all", "whole", "times", "times"))
+        print(COLUMNS.format("graph", "size", "by", "pairs", "kept", "searches", "woken", "seed", "filter", "chase", "all", "whole", "ns",
+                             "times", "times"))
         for kind, size in planned(sys.argv[1:], PLAN):
             measure(program, folder, kind, size)
     print_load()
