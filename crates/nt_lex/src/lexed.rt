@@ -58,9 +58,9 @@ impl<'a> LexedTerm<'a> {
         TermRef::new(self.kind, self.first.as_slice(), self.second.as_slice())
     }
 
-    /// Whether it has no text of its own.
-    #[cfg(test)]
-    pub(crate) fn is_part_of_the_line(&self) -> bool {
+    /// Whether its texts are parts of the line, so that it has none of its own. Contracts don't tell: it is the same term
+    /// either way, and this is for who asks what it costs.
+    pub fn is_part_of_the_line(&self) -> bool {
         matches!(
             (&self.first, &self.second),
             (CowSlice::Borrowed(_), CowSlice::Borrowed(_))

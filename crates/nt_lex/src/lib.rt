@@ -35,6 +35,3 @@ pub use lexed::LexedTerm;
 pub use literal::read_literal;
 pub use object::{lex_object, read_object};
 pub use space::skip_space;
-
-#[cfg(test)]
-mod tests;

@@ -4,7 +4,7 @@
 //! - `sample`: terms as rows of tables
 //! - `packed`: `term_list`
 //! - `numbered`: `term_table`
-//! - `lexed`: `nt_lex`, less what is private there
+//! - `lexed`: `nt_lex`
 //! - `read`: `nt_reader`
 //! - `printed`: `term_text`
 #![tactic(auto)]
