@@ -25,6 +25,10 @@ entity_named G n named e =
     let r = row_named G e.1.0 e.1.1 e.1.2 named e.1.3 in
     elim e.1.4 [ inl same ↦ subst (λ m. m < length G.literal) (sym same) r.0 | inr same ↦ subst (λ m. m < length G.literal) (sym same) r.2 ]
 
+-- what is near to something is a name
+pub near_is_named : (G : NumberedGraph) (K : List Shape) (e n : ℕ) → IsGraph G → IsNear G K e n → n < length G.literal
+near_is_named G K e n named h = entity_named G n named (near_entity G K e n h)
+
 -- a place behind the lists has an empty list
 pub listed : (lists : List (List ℕ)) (m n : ℕ) → Contains (list_at lists m) n → m < length lists
 listed lists m n h = elim (cases_lt m (length lists)) [
@@ -38,7 +42,7 @@ all_listed lists P each = All-from_get_or (λ (xs : List ℕ). All P xs) lists [
 
 -- what is near is a name
 pub near_named : (G : NumberedGraph) (K : List Shape) (near : List (List ℕ)) → IsGraph G → ((e : ℕ) → e < length near → (n : ℕ) → Contains (list_at near e) n ↔ IsNear G K e n) → All (λ xs. All (λ n. n < length G.literal) xs) near
-near_named G K near named exact = all_listed near (λ n. n < length G.literal) (λ e n c. entity_named G n named (near_entity G K e n ((exact e (listed near e n c) n).0 c)))
+near_named G K near named exact = all_listed near (λ n. n < length G.literal) (λ e n c. near_is_named G K e n named ((exact e (listed near e n c) n).0 c))
 
 -- near lists and their owners
 pub neighbourhoods : (near owners : List (List ℕ)) (names : ℕ) → names < 2 ^ 32 → length near ≡ names → length owners ≡ names → All IsStrictlyIncreasing near → All (λ xs. All (λ n. n < names) xs) near →

@@ -8,7 +8,7 @@ ghost use Rattle.near_lists.specs.Neighbourhoods.{AreNearNames, HasImages};
 use crate::entities::near_rows;
 use crate::rows::Rows;
 use crate::turn::turned;
-use chase_laws::laws::law_local;
+use chase_laws::laws::{law_local, law_pattern};
 use chase_laws::{Pattern, all_valid};
 use gk_base::NoMemory;
 use std::alloc::Global;
@@ -36,14 +36,15 @@ impl Model for Near {
 }
 
 impl Near {
-    /// Finds what is near to each name of the graph: what a key looks at from an entity is in its list. Time goes with the rows that the walks pass, and memory with the
-    /// lists and with the walks from one name. Fails only for want of memory.
+    /// Finds what is near to each name of the graph: what a key looks at from an entity is in its list. Time goes with the
+    /// rows that the walks pass, and memory with the lists and with the walks from one name. Fails only for want of memory.
     pub fn build(alloc: Global, graph: &Graph, patterns: &[Pattern]) -> Result<Near, NoMemory>
         ensures names { IfOk result (λ n. AreNearNames graph.now patterns.now n.near) }
         ensures images { IfOk result (λ n. HasImages graph.now patterns.now n.near) }
     {
-        // Facts for the proof: the images of a valuation are near to the first of them.
+        // Facts for the proof: the images of a valuation are near to the first of them, which is that of an entity variable.
         law_local();
+        law_pattern();
         all_valid(patterns);
         let near = near_rows(alloc, graph, patterns)?;
         let owners = turned(alloc, &near, graph.names())?;
