@@ -1,6 +1,7 @@
 -- One pair more.
-use Rattle.std.proofs.Common.{ℕ, ◌≡◌, ◌+◌, max, length, get_or, ap, ◌∙◌, arith}
-use Rattle.chase_core.specs.Setup.{near_count}
+use Rattle.std.proofs.Common.{List, ℕ, ◌≡◌, ◌+◌, max, length, get_or, ap, subst, ◌∙◌, arith}
+use Rattle.std.proofs.lemmas.List.{take_all}
+use Rattle.chase_core.specs.Setup.{IsMost, near_count}
 use Rattle.chase_core.proofs.Widest.{most_more}
 use Rattle.chase_core.proofs.setup.most_near.Goals as goal
 
@@ -15,3 +16,6 @@ loop-a-preserved c =
     let count : length c.near.result.now + length c.near-in-loop-a.result.now ≡ near_count near p = omega arith in
     let most : c.max-most.result ≡ max c.loop-a.most (near_count near p) = c.max-most.ensures ∙ ap (max c.loop-a.most) count in
     rw most (most_more near pairs i c.loop-a.most c.loop-a-test.true c.loop-a.invariant)
+
+pub returns : goal.returns
+returns c = subst (λ (pairs : List (ℕ × ℕ)). IsMost c.args.near.now.near pairs c.loop-a.most) (take_all c.loop-a.a-index c.args.pairs.now (omega arith)) c.loop-a.invariant
