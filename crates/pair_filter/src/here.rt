@@ -1,6 +1,6 @@
 //! Whether two names can go together at a slot, by what each is: what pairing to depth 0 asks.
 
-ghost use Rattle.std.specs.Prelude.{◌≡◌, ◌<◌, ◌↔◌, IsTrue, length};
+ghost use Rattle.std.specs.Prelude.{◌<◌, ◌↔◌, IsTrue, length};
 ghost use Rattle.chase_laws.specs.Graph.{IsLiteral, AreAlike};
 ghost use Rattle.chase_laws.specs.Valuation.{FitsSlot};
 ghost use Rattle.chase_laws.specs.Pairing.{GoTogether, PairedHere};

@@ -1,7 +1,7 @@
 //! Names that link: any two names that a key pairs with such a name are paired with each other. A name links where each of the
 //! key's edges leads from it to one name alone that links in turn, or to where any two names that may stand there are paired.
 
-ghost use Rattle.std.specs.Prelude.{◌≡◌, ◌<◌, IsTrue, length};
+ghost use Rattle.std.specs.Prelude.{◌<◌, IsTrue, length};
 ghost use Rattle.chase_laws.specs.Graph.{NumberedGraph};
 ghost use Rattle.pair_filter.specs.Known.{IsFree, PairsAll, PairsAllForth, PairsAllBack, Links, LinksForth, LinksBack, LinksAmong};
 

@@ -1,6 +1,6 @@
 //! What is known of names under each key while pairs are filtered.
 
-ghost use Rattle.std.specs.Prelude.{◌≡◌, ◌<◌, List, ℕ, IfOk, IfSome, IsTrue, Some, length, slice_get};
+ghost use Rattle.std.specs.Prelude.{◌≡◌, ◌<◌, List, IfOk, IfSome, IsTrue, Some, length, slice_get};
 ghost use Rattle.chase_laws.specs.Graph.{NumberedGraph};
 ghost use Rattle.chase_laws.specs.Shape.{Shape};
 ghost use Rattle.pair_filter.specs.Keys.{ArePairedAt};
