@@ -1,7 +1,7 @@
 //! What `why` prints: a proof that two entities are the same, with only the steps that it needs, from the rows of the graph,
 //! the keys, and the words for the two.
 
-ghost use Rattle.std.specs.Prelude.{◌≡◌, ◌<◌, ◌≤◌, ◌^◌, ◌-◌, List, map, length, IfOk, IfErr, IfSome, IfNone, OnOk};
+ghost use Rattle.std.specs.Prelude.{◌≡◌, ◌<◌, ◌≤◌, ◌^◌, List, map, length, IfOk, IfErr, IfSome, IfNone, OnOk};
 ghost use Rattle.gk_base.specs.declared.term.Triple.{Triple as AnyTriple};
 ghost use Rattle.chase_laws.specs.Chase.{AreSame};
 ghost use Rattle.key_file.specs.KeyShape.{KeyShape};

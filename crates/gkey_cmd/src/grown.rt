@@ -1,7 +1,7 @@
 //! What `grow` prints: the report of the classes of two graphs together, from the rows of both, how many of them are the first
 //! graph's, and the keys.
 
-ghost use Rattle.std.specs.Prelude.{◌≡◌, ◌<◌, ◌≤◌, ◌^◌, ◌-◌, List, length, IfOk, IfErr, OnOk};
+ghost use Rattle.std.specs.Prelude.{◌<◌, ◌≤◌, ◌^◌, List, length, IfOk, IfErr, OnOk};
 ghost use Rattle.gk_base.specs.declared.term.Triple.{Triple as AnyTriple};
 ghost use Rattle.graph_rows.specs.Rows.{StandFor, AreFew};
 ghost use Rattle.gkey_cmd.specs.Matched.{IsReport, HasTooManyPairs};

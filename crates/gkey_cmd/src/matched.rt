@@ -1,6 +1,6 @@
 //! What `match` prints: the report of the classes, from the rows of the graph and the keys.
 
-ghost use Rattle.std.specs.Prelude.{◌≡◌, ◌<◌, ◌≤◌, ◌^◌, ◌-◌, List, IfOk, IfErr, OnOk};
+ghost use Rattle.std.specs.Prelude.{◌<◌, ◌≤◌, ◌^◌, List, IfOk, IfErr, OnOk};
 ghost use Rattle.gk_base.specs.declared.term.Triple.{Triple as AnyTriple};
 ghost use Rattle.graph_rows.specs.Rows.{StandFor, AreFew};
 ghost use Rattle.gkey_cmd.specs.Matched.{IsReport, HasTooManyPairs};

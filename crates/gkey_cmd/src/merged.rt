@@ -1,7 +1,7 @@
 //! What `merge` prints: the graph in which each entity stands as the first member of its class, from the rows of the graph
 //! and the keys.
 
-ghost use Rattle.std.specs.Prelude.{◌≡◌, ◌<◌, ◌≤◌, ◌^◌, ◌-◌, List, IfOk, IfErr, OnOk};
+ghost use Rattle.std.specs.Prelude.{◌<◌, ◌≤◌, ◌^◌, List, IfOk, IfErr, OnOk};
 ghost use Rattle.gk_base.specs.declared.term.Triple.{Triple as AnyTriple};
 ghost use Rattle.graph_rows.specs.Rows.{StandFor, AreFew};
 ghost use Rattle.gkey_cmd.specs.Matched.{HasTooManyPairs};

@@ -1,6 +1,6 @@
 //! What `prove` prints: a proof of all that is the same, from the rows of the graph and the keys.
 
-ghost use Rattle.std.specs.Prelude.{◌≡◌, ◌<◌, ◌≤◌, ◌^◌, ◌-◌, List, map, length, IfOk, IfErr, OnOk};
+ghost use Rattle.std.specs.Prelude.{◌≡◌, ◌<◌, ◌≤◌, ◌^◌, List, map, length, IfOk, IfErr, OnOk};
 ghost use Rattle.gk_base.specs.declared.term.Triple.{Triple as AnyTriple};
 ghost use Rattle.key_file.specs.KeyShape.{KeyShape};
 ghost use Rattle.match_run.specs.Classes.{IsFinishedJournal};

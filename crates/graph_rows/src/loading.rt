@@ -1,6 +1,6 @@
 //! The first bytes of a file, as many as a limit lets in and one more.
 
-ghost use Rattle.std.specs.Prelude.{◌≡◌, ◌<◌, ◌≤◌, ◌+◌, ◌-◌, ◌^◌, ◌++◌, ◌↔◌, [], Some, take, length, vec_len, IfOk, IfErr, OnOk, IfSome, IsSomeAnd};
+ghost use Rattle.std.specs.Prelude.{◌≡◌, ◌<◌, ◌≤◌, ◌+◌, ◌^◌, ◌++◌, ◌↔◌, [], Some, take, length, vec_len, IfOk, IfErr, OnOk, IfSome, IsSomeAnd};
 ghost use Rattle.gk_io.specs.Files.{bytes_of};
 ghost use Rattle.graph_rows.specs.Loaded.{LoadStops};
 ghost use Rattle.graph_rows.specs.Feeding.{ReadStops};

@@ -1,10 +1,9 @@
 //! Declarations, and the line that begins a key.
 
-ghost use Rattle.std.specs.Prelude.{◌≡◌, ◌<◌, ◌≤◌, length, IsUtf8, Some};
-ghost use Rattle.key_file.specs.KeyShape.{KeyShape};
+ghost use Rattle.std.specs.Prelude.{◌≡◌, ◌≤◌, length, IsUtf8};
 ghost use Rattle.gk_base.specs.Answers.{IsSo};
 ghost use Rattle.key_lang.specs.Answers.{Is};
-ghost use Rattle.key_lang.specs.OpenKey.{OpenShape, begin};
+ghost use Rattle.key_lang.specs.OpenKey.{begin};
 ghost use Rattle.key_lang.specs.Statements.{KeySays, TypedSays, typed_slot, ValueSays, slot_of_value};
 
 use crate::fault::{KeyFault, LineStop};

@@ -1,10 +1,9 @@
 //! An open key that ends.
 
-ghost use Rattle.std.specs.Prelude.{◌≡◌, ◌++◌, ◌<◌, ◌≤◌, All, false, length, map, IfOk};
+ghost use Rattle.std.specs.Prelude.{◌≡◌, ◌++◌, ◌<◌, ◌≤◌, All, length, map, IfOk};
 ghost use Rattle.std.specs.List.{list_all, range_with_len};
 ghost use Rattle.key_file.specs.declared.slot.KeySlot.TheVariants.{Fixed};
 ghost use Rattle.key_file.specs.Key.{is_used};
-ghost use Rattle.key_file.specs.KeyFile.{has_name};
 ghost use Rattle.gk_base.specs.Answers.{IsSo};
 ghost use Rattle.key_lang.specs.Answers.{Is};
 ghost use Rattle.key_lang.specs.OpenKey.{slot_of_end, key_edge, finish};

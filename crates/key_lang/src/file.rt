@@ -1,13 +1,13 @@
 //! Reads a whole key file: its keys, or the first refused line.
 
-ghost use Rattle.std.specs.Prelude.{◌≡◌, ℕ, ◌+◌, ◌-◌, ◌<◌, ◌≤◌, ◌^◌, List, length, take, Result, Ok, Err};
+ghost use Rattle.std.specs.Prelude.{◌≡◌, ◌-◌, ◌≤◌, List, length, take, Result};
 ghost use Rattle.nt_lex.specs.Scans.{IsRunAt};
 ghost use Rattle.nt_reader.specs.Lines.{is_line_byte};
 ghost use Rattle.key_file.specs.KeyShape.{KeyShape};
 ghost use Rattle.gk_base.specs.Answers.{IsSo, Gives};
 ghost use Rattle.key_lang.specs.declared.fault.KeyRefusal.{KeyRefusal};
 ghost use Rattle.key_lang.specs.Fair.{IsFairState};
-ghost use Rattle.key_lang.specs.Seen.{NumberedSays, HasSeen, SeesLines, HasSeenAll, SeesAll, next_line};
+ghost use Rattle.key_lang.specs.Seen.{NumberedSays, HasSeen, SeesLines, SeesAll, next_line};
 ghost use Rattle.key_lang.specs.Answers.{Is};
 ghost use Rattle.key_lang.specs.KeyText.{ended, KeysSay};
 

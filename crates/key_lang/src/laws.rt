@@ -1,9 +1,8 @@
 //! What holds of key files for every text. The functions do nothing: their contracts are the laws.
 
-ghost use Rattle.std.specs.Prelude.{◌≡◌, ◌≤◌, ◌↔◌, ℕ, List, length, Result, Ok};
+ghost use Rattle.std.specs.Prelude.{◌≤◌, ◌↔◌, ℕ, List, length, Ok};
 ghost use Rattle.key_lang.specs.CanonicalKeys.{keys_text};
 ghost use Rattle.key_file.specs.KeyShape.{KeyShape};
-ghost use Rattle.key_lang.specs.declared.fault.KeyRefusal.{KeyRefusal};
 ghost use Rattle.gk_base.specs.Answers.{HasOne};
 ghost use Rattle.key_lang.specs.OpenKey.{KeyState};
 ghost use Rattle.key_lang.specs.Statements.{KeyLineSays};

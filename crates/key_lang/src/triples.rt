@@ -1,6 +1,6 @@
 //! The triples of an open key.
 
-ghost use Rattle.std.specs.Prelude.{◌≡◌, ◌<◌, ◌≤◌, length, position, IsUtf8, IfOk};
+ghost use Rattle.std.specs.Prelude.{◌≡◌, ◌≤◌, length, position, IsUtf8, IfOk};
 ghost use Rattle.std.specs.List.{list_any};
 ghost use Rattle.term_table.specs.Numbering.{same_term};
 ghost use Rattle.gk_base.specs.Answers.{IsSo};

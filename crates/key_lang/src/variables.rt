@@ -1,6 +1,6 @@
 //! The variables of an open key.
 
-ghost use Rattle.std.specs.Prelude.{◌≡◌, ◌+◌, ◌<◌, ◌≤◌, ◌^◌, length, position, IfOk};
+ghost use Rattle.std.specs.Prelude.{◌≡◌, ◌≤◌, length, position, IfOk};
 ghost use Rattle.std.specs.List.{list_any};
 ghost use Rattle.gk_base.specs.Answers.{IsSo};
 ghost use Rattle.key_lang.specs.Answers.{Is};

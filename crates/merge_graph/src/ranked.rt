@@ -1,7 +1,7 @@
 //! The lines of the images by way of ranks: a text is made once for each name and not for each line, and three numbers are
 //! compared in place of two lines.
 
-ghost use Rattle.std.specs.Prelude.{◌≡◌, ◌<◌, ◌↔◌, ◌^◌, ℕ, List, IfOk, IfSome, All, Contains, length, map};
+ghost use Rattle.std.specs.Prelude.{◌≡◌, ◌<◌, ◌↔◌, ℕ, List, IfOk, IfSome, All, Contains, length, map};
 ghost use Rattle.term_text.specs.CanonicalText.{triple_text};
 ghost use Rattle.merge_graph.specs.MergedGraph.{IsWithin, image};
 ghost use Rattle.merge_graph.specs.Ranked.{IsJoinedOnce, ranked_row};

@@ -1,6 +1,6 @@
 //! Which candidate pairs are kept.
 
-ghost use Rattle.std.specs.Prelude.{◌<◌, ◌≤◌, ◌↔◌, ℕ, Contains, IfOk, length};
+ghost use Rattle.std.specs.Prelude.{◌≤◌, ◌↔◌, ℕ, Contains, IfOk, length};
 ghost use Rattle.std.specs.List.{AllZip};
 ghost use Rattle.std.specs.Thread.{IsSync};
 ghost use Rattle.chase_laws.specs.Candidate.{AreAscending};

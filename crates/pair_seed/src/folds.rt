@@ -1,6 +1,6 @@
 //! Who has a literal that is alike to a name: an index, which is made only where a key folds values at its first slot.
 
-ghost use Rattle.std.specs.Prelude.{◌≡◌, ◌<◌, ◌↔◌, ℕ, List, [], ◌∷◌, All, Contains, IfOk, IsTrue, Some, length, slice_get, slice_index};
+ghost use Rattle.std.specs.Prelude.{◌≡◌, ◌<◌, ◌↔◌, ℕ, [], ◌∷◌, All, Contains, IfOk, IsTrue, Some, length, slice_get, slice_index};
 ghost use Rattle.chase_laws.specs.declared.pattern.Edge.{Edge};
 ghost use Rattle.chase_laws.specs.Shape.{Shape};
 ghost use Rattle.pair_seed.specs.Folds.{HasAlike, IsFoldTable, IsFoldedEdge, Serves};

@@ -1,6 +1,6 @@
 //! Whether a key pairs two names: by type, and edge by edge.
 
-ghost use Rattle.std.specs.Prelude.{◌≡◌, ◌≢◌, ◌<◌, ◌↔◌, ℕ, Contains, IsTrue, length, slice_index};
+ghost use Rattle.std.specs.Prelude.{◌<◌, ◌↔◌, ℕ, Contains, IsTrue, length, slice_index};
 ghost use Rattle.std.specs.List.Sorted.{IsStrictlyIncreasing};
 ghost use Rattle.chase_laws.specs.Graph.{IsLiteral};
 ghost use Rattle.chase_laws.specs.Candidate.{Shares, SharesAlong, IsCandidateUnder};

@@ -1,13 +1,13 @@
 //! The proof that a journal makes.
 
-ghost use Rattle.std.specs.Prelude.{◌≡◌, ◌<◌, ◌≤◌, ◌+◌, ◌-◌, ◌^◌, ℕ, true, IfOk, OnOk, All, Some, length, map, slice_index};
+ghost use Rattle.std.specs.Prelude.{◌≡◌, ◌<◌, ◌≤◌, ◌+◌, ◌-◌, ◌^◌, true, IfOk, OnOk, All, Some, length, map, slice_index};
 ghost use Rattle.chase_laws.specs.Shape.{is_entity};
 ghost use Rattle.chase_laws.specs.Joined.{joined_by};
 ghost use Rattle.term_table.specs.Numbering.{with_terms, AreDistinct};
 ghost use Rattle.proof_graph.specs.Steps.{step_terms, in_numbers};
 ghost use Rattle.proof_graph.specs.Tells.{AreSupported, TellsAll, supported_slots};
 ghost use Rattle.proof_graph.specs.TermNumbers.{NotesPlaces};
-ghost use Rattle.proof_graph.specs.Built.{built_support, built_step, built_entry, FitsPattern, IsJoinedAt};
+ghost use Rattle.proof_graph.specs.Built.{built_support, built_step, FitsPattern, IsJoinedAt};
 
 use crate::term_numbers::TermNumbers;
 use crate::{Proof, ProofStep, Support, Ways};

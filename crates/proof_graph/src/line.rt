@@ -1,6 +1,6 @@
 //! One line of a proof file.
 
-ghost use Rattle.std.specs.Prelude.{◌≡◌, ◌↔◌, ◌++◌, ◌∷◌, [], ℕ, List, IsTrue, IsUtf8, OnOk, length, map, codes};
+ghost use Rattle.std.specs.Prelude.{◌≡◌, ◌↔◌, ◌++◌, ◌∷◌, [], ℕ, List, IsTrue, IsUtf8, OnOk, length, map};
 ghost use Rattle.gk_base.specs.declared.term.Term.{Term};
 ghost use Rattle.key_file.specs.Compile.{HasMoreNames};
 ghost use Rattle.proof_graph.specs.Steps.{term_at, step_with, IsNumberedBelow};

@@ -1,6 +1,6 @@
 //! The sides of a step, and the terms that a file lists.
 
-ghost use Rattle.std.specs.Prelude.{◌≡◌, ◌<◌, ◌≤◌, ℕ, List, Some, IsUtf8, IfOk, length, slice_get, slice_index};
+ghost use Rattle.std.specs.Prelude.{◌≡◌, ◌≤◌, List, Some, IsUtf8, IfOk, length, slice_get, slice_index};
 ghost use Rattle.gk_base.specs.declared.term.Term.{Term};
 ghost use Rattle.nt_lex.specs.Reading.{begins_term};
 ghost use Rattle.key_file.specs.Compile.{HasMoreNames};

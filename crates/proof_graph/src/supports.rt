@@ -1,7 +1,7 @@
 //! Which entries of a journal lead from one name to another.
 
 ghost use Rattle.std.specs.Prelude.{◌≡◌, ◌≢◌, ◌<◌, ◌≤◌, ◌↔◌, IsTrue, IsSome, IfOk, IfSome, All, AllPairs, length, take, nat_eq};
-ghost use Rattle.chase_laws.specs.Joined.{joined_by, links, Joined};
+ghost use Rattle.chase_laws.specs.Joined.{links, Joined};
 ghost use Rattle.proof_graph.specs.Leads.{links_lead};
 ghost use Rattle.proof_graph.specs.Way.{way};
 ghost use Rattle.proof_graph.specs.Tree.{never};

@@ -1,6 +1,6 @@
 //! Which member follows which in its class.
 
-ghost use Rattle.std.specs.Prelude.{◌≡◌, IfOk};
+ghost use Rattle.std.specs.Prelude.{IfOk};
 ghost use Rattle.term_text.specs.Lines.{IsLinked};
 
 use crate::member::Member;

@@ -1,7 +1,7 @@
 //! Which entries of a journal are needed.
 
-ghost use Rattle.std.specs.Prelude.{◌≡◌, ℕ, ◌+◌, ◌<◌, ◌≤◌, ◌^◌, List, Some, IfOk, OnOk, All, false, length, replicate};
-ghost use Rattle.chase_laws.specs.Shape.{is_entity, PatternFacts};
+ghost use Rattle.std.specs.Prelude.{◌≡◌, ℕ, ◌+◌, ◌<◌, List, Some, IfOk, OnOk, All, false, length, replicate};
+ghost use Rattle.chase_laws.specs.Shape.{is_entity};
 ghost use Rattle.proof_graph.specs.Built.{IsJoinedAt};
 ghost use Rattle.why_pair.specs.Needed.{needs_of};
 ghost use Rattle.why_pair.specs.Marking.{with_marks, MarksFrom, CanBeTold};

@@ -1,6 +1,6 @@
 //! The supports of a proof, anew: each with the entries that are on the way along the whole journal, and no others.
 
-ghost use Rattle.std.specs.Prelude.{◌≡◌, ◌<◌, ℕ, true, Some, IfOk, All, length, map, slice_get};
+ghost use Rattle.std.specs.Prelude.{◌≡◌, ℕ, true, Some, IfOk, All, length, map, slice_get};
 ghost use Rattle.chase_laws.specs.Joined.{joined_by, links};
 ghost use Rattle.chase_laws.specs.declared.entry.Entry.{Entry};
 ghost use Rattle.proof_graph.specs.Way.{way};

@@ -1,6 +1,6 @@
 //! Whether a proof can be made of a journal: the test of what `why` asks of it.
 
-ghost use Rattle.std.specs.Prelude.{◌≡◌, ◌<◌, ◌≤◌, ◌^◌, true, Some, IfOk, All, length};
+ghost use Rattle.std.specs.Prelude.{◌≡◌, ◌<◌, ◌^◌, true, Some, IfOk, All, length};
 ghost use Rattle.chase_laws.specs.Shape.{is_entity};
 ghost use Rattle.proof_graph.specs.Built.{IsJoinedAt};
 ghost use Rattle.proof_graph.specs.Tells.{IsSupported, AreSupported};
