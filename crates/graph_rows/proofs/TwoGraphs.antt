@@ -1,5 +1,5 @@
 -- A graph of the first rows, and the graph of all of them.
-use Rattle.std.proofs.Common.{inl, inr, List, ℕ, Bool, Option, Contains, map, take, drop, ◌↔◌, ◌≡◌, ◌⊎◌, sym, ◌∙◌, ap, subst}
+use Rattle.std.proofs.Common.{inl, inr, List, ℕ, Contains, map, take, drop, ◌↔◌, ◌≡◌, ◌⊎◌, sym, ◌∙◌, ap, subst}
 use Rattle.std.proofs.lemmas.List.{take-map, take-append-drop}
 use Rattle.std.proofs.lemmas.List.Elements.{Contains-append_left}
 use Rattle.gk_base.specs.Term.{is_literal}
@@ -8,7 +8,7 @@ use Rattle.gk_base.specs.declared.term.Triple.{Triple}
 use Rattle.term_table.specs.Numbering.{with_terms}
 use Rattle.term_table.specs.Folding.{folds_of}
 use Rattle.chase_laws.specs.Shape.{Shape}
-use Rattle.chase_laws.specs.Graph.{NumberedGraph, IsFolding}
+use Rattle.chase_laws.specs.Graph.{NumberedGraph}
 use Rattle.chase_laws.specs.SameRows.{AreUnfolded, HasRowsOf}
 use Rattle.key_file.specs.Numbered.{row_of, type_number, graph_of}
 use Rattle.key_file.proofs.CallerLemmas.{rows_stay}
@@ -50,9 +50,3 @@ has_front K rows n G F front all literal type alike = record {
   rdf_type = type;
   alike = inl alike;
 }
-
--- a folding stays one with equal lists
-pub folding_again : (rows : List (List ℕ)) (flags : List Bool) (o : Option ℕ) (xs ys : List ℕ) → ys ≡ xs →
-    (let r : NumberedGraph = record { rows = rows; literal = flags; rdf_type = o; alike = xs } in IsFolding r) →
-    (let r : NumberedGraph = record { rows = rows; literal = flags; rdf_type = o; alike = ys } in IsFolding r)
-folding_again rows flags o xs ys e h = subst (λ (zs : List ℕ). let r : NumberedGraph = record { rows = rows; literal = flags; rdf_type = o; alike = zs } in IsFolding r) (sym e) h

@@ -3,9 +3,12 @@
 ghost use Rattle.std.specs.Prelude.{◌≡◌, ◌≢◌, ◌<◌, ◌≤◌, ◌+◌, ◌-◌, ◌^◌, ℕ, List, map, length, slice_get, slice_index, Some, false, IsTrue, IfOk};
 ghost use Rattle.gk_base.specs.Term.{is_literal};
 ghost use Rattle.gk_base.specs.declared.term.Triple.{Triple as AnyTriple};
-ghost use Rattle.chase_laws.specs.SameRows.{IsUnfolded, AreUnfolded};
+ghost use Rattle.chase_laws.specs.Graph.{IsFolding};
+ghost use Rattle.chase_laws.specs.SameRows.{AreUnfolded};
 ghost use Rattle.chase_laws.specs.declared.pattern.Slot.TheVariants.{Folded};
 ghost use Rattle.term_table.specs.Folding.{IsLiteralAt};
+ghost use Rattle.term_table.specs.Numbering.{with_terms};
+ghost use Rattle.key_file.specs.Compile.{key_terms, patterns_of};
 ghost use Rattle.key_file.specs.Numbered.{type_number};
 ghost use Rattle.graph_rows.specs.Rows.{StandFor, AreFew};
 ghost use Rattle.graph_rows.specs.Numbered.{AreAlikeFor, IsNumbered};
@@ -110,6 +113,51 @@ pub(crate) fn alike_for(
     }
 }
 
+/// Keys in numbers, and what every graph over their names has beside its rows.
+#[derive(Drop)]
+pub(crate) struct NumberedKeys {
+    /// The names that there were, and behind them those that only keys have.
+    pub(crate) names: Names,
+    /// A pattern for each key, in the order of the keys.
+    pub(crate) patterns: Vec<Pattern>,
+    /// A flag for each name that tells whether it is a literal.
+    pub(crate) literal: Vec<bool>,
+    /// The number of `rdf:type`, where it is a name.
+    pub(crate) rdf_type: Option<u32>,
+    /// What each name is alike to, as far as the keys ask for it.
+    pub(crate) alike: Vec<u32>,
+}
+
+/// The keys in numbers over these names. The keys' terms that are no names yet become names behind the others. Only want of
+/// memory stops it.
+pub(crate) fn number_keys(
+    alloc: Global,
+    names: Names,
+    keys: &KeyFile,
+) -> Result<NumberedKeys, NoMemory>
+    requires room { length names + length (key_terms keys.now) < 2 ^ 32 - 1 }
+    ensures names { IfOk result (λ k. k.names ≡ with_terms names (key_terms keys.now)) }
+    ensures patterns { IfOk result (λ k. k.patterns.items ≡ patterns_of k.names keys.now) }
+    ensures literal { IfOk result (λ k. k.literal.items ≡ map is_literal k.names) }
+    ensures rdf_type { IfOk result (λ k. k.rdf_type ≡ type_number k.names) }
+    ensures alike { IfOk result (λ k. AreAlikeFor k.names k.patterns.items k.alike.items) }
+    ensures folding { IfOk result (λ k. (rows : List (List ℕ)) →
+        IsFolding (record { rows = rows; literal = k.literal.items; rdf_type = k.rdf_type; alike = k.alike.items })) }
+{
+    let mut names = names;
+    let patterns = compile(alloc, keys, &mut names)?;
+    let literal = literal_flags(alloc, &names)?;
+    let rdf_type = type_number(alloc, &names)?;
+    let alike = alike_for(alloc, &names, &patterns)?;
+    Ok(NumberedKeys {
+        names,
+        patterns,
+        literal,
+        rdf_type,
+        alike,
+    })
+}
+
 /// The graph of these rows and the keys' patterns, in numbers. The keys' terms that are no names yet become names behind the
 /// others. `threads` says how many threads may be used, the caller's among them; the answer is the same. Only want of memory
 /// stops it.
@@ -124,12 +172,16 @@ pub fn number<R: Threads + Sync>(
     ensures numbered { IfOk result (λ n. (triples : List AnyTriple) → StandFor rows triples → IsNumbered n triples keys.now) }
     ensures few_patterns { IfOk result (λ n. length n.patterns.items < 2 ^ 32) }
 {
-    let Rows { mut names, rows } = rows;
+    let Rows { names, rows } = rows;
     let _ = keys.keys();
-    let patterns = compile(alloc, keys, &mut names)?;
-    let literal = literal_flags(alloc, &names)?;
-    let rdf_type = type_number(alloc, &names)?;
-    let alike = alike_for(alloc, &names, &patterns)?;
+    let whole = number_keys(alloc, names, keys)?;
+    let NumberedKeys {
+        names,
+        patterns,
+        literal,
+        rdf_type,
+        alike,
+    } = whole;
     let count = names.len();
     let graph = Graph::build_in_threads(rt, alloc, threads, rows, count, literal, rdf_type, alike)?;
     Ok(Numbered {
