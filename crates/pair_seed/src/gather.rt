@@ -1,6 +1,6 @@
 //! The partners of one entity: gathered key by key, then sorted, each once.
 
-ghost use Rattle.std.specs.Prelude.{◌≡◌, ◌<◌, ◌↔◌, ℕ, [], ◌∷◌, ⊤, All, Contains, IfOk, length, slice_get, Some};
+ghost use Rattle.std.specs.Prelude.{◌≡◌, ◌<◌, ℕ, [], ◌∷◌, ⊤, Contains, IfOk, length, slice_get, Some};
 ghost use Rattle.chase_laws.specs.Shape.{Shape};
 ghost use Rattle.chase_laws.specs.Graph.{IsLiteral};
 ghost use Rattle.pair_seed.specs.Folds.{Holds, Serves};
@@ -157,7 +157,8 @@ pub(crate) fn partners(
     ensures { IfOk result (λ _. ArePartners graph.now patterns.now a near.new.items) }
 {
     find(graph, folds, patterns, a, near)?;
-    near.sort_unstable();
+    // What one literal leads to ascends, so this is some ascending runs, which a stable sort merges.
+    near.sort()?;
     near.dedup();
     Ok(())
 }
