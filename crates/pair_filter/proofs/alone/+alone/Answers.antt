@@ -1,5 +1,6 @@
-use Rattle.std.proofs.Common.{ℕ, ◌-◌, ◌∙◌, arith, true≢false, sym, refl}
+use Rattle.std.proofs.Common.{List, ℕ, ◌-◌, ◌∙◌, arith, true≢false, sym, subst, refl, take_all}
 use Rattle.chase_laws.specs.Graph.{HasRow}
+use Rattle.pair_filter.specs.Along.{HasAlone}
 use Rattle.pair_filter.proofs.Steps.{paired_at_once, paired_by_edges, not_along, led_forth, led_back, has_alone_rows}
 use Rattle.pair_filter.proofs.alone.+alone.Goals as goal
 
@@ -51,4 +52,10 @@ pub is_alone-returns-then-depth-eq0 : goal.is_alone-returns-then-depth-eq0
 is_alone-returns-then-depth-eq0 t c = (
   (λ yes. paired_at_once c.args.graph.now c.args.pattern.now c.args.skipped c.args.depth c.args.s c.args.n c.args.n c.if-depth-eq0.true (c.is_here.ensures.0 c.if-not-is_here.false)),
   (λ h. refl),
+)
+
+pub has_alone-returns : goal.has_alone-returns
+has_alone-returns t c = (
+  (λ f. absurd (true≢false (sym f))),
+  (λ h. absurd (c.loop-n.invariant (subst (λ (names : List ℕ). HasAlone c.args.graph.now c.args.pattern.now c.args.skipped c.args.depth c.args.s names) (sym (take_all c.loop-n.n-index c.args.names.now c.loop-n-test.false)) h))),
 )

@@ -1,8 +1,8 @@
-use Rattle.std.proofs.Common.{ℕ, Some, Contains, slice_get, ◌-◌, ◌≡◌, ◌∙◌, inl, inr, ap, arith, true≢false, sym, subst, refl, take_all}
+use Rattle.std.proofs.Common.{List, ℕ, Some, Contains, slice_get, ◌-◌, ◌≡◌, ◌∙◌, inl, inr, ap, arith, true≢false, sym, subst, refl, take_all}
 use Rattle.chase_laws.specs.declared.pattern.Slot.{Slot}
 use Rattle.chase_laws.specs.declared.pattern.Slot.TheVariants.{Value, Fixed}
 use Rattle.chase_laws.specs.Graph.{HasRow}
-use Rattle.pair_filter.specs.Along.{ArePairedExcept}
+use Rattle.pair_filter.specs.Along.{ArePairedExcept, HavePaired, HasPartner, HaveCommonPartner}
 use Rattle.pair_filter.proofs.Steps.{left_alone, right_alone, paired_at_once, paired_by_edges, not_along, led_forth, led_back, have_paired_rows, same_value, same_constant, shares_value, contains_more}
 use Rattle.pair_filter.proofs.paired.+paired.Goals as goal
 
@@ -147,5 +147,37 @@ has_partner_among-loop-w-preserved t c = λ h.
     let P = λ (w : ℕ). ArePairedExcept c.args.graph.now c.args.pattern.now c.args.skipped c.args.depth c.args.s c.args.u w in
     elim (contains_more c.args.names.now c.loop-w.w-index h.right c.loop-w-test.true h.in_first) [
       | inl old ↦ c.loop-w.invariant (record { right = h.right; in_first = old; in_second = h.in_second; paired = h.paired })
+      | inr same ↦ true≢false (sym (c.are_paired.ensures.1 (subst P (sym same) h.paired)) ∙ c.if-are_paired.false)
+    ]
+
+pub have_any_paired-returns : goal.have_any_paired-returns
+have_any_paired-returns t c = (
+  (λ f. absurd (true≢false (sym f))),
+  (λ h. absurd (c.loop-u.invariant (subst (λ (names : List ℕ). HavePaired c.args.graph.now c.args.pattern.now c.args.skipped c.args.depth c.args.s names c.args.ws.now) (sym (take_all c.loop-u.u-index c.args.us.now c.loop-u-test.false)) h))),
+)
+
+pub have_few_paired-returns : goal.have_few_paired-returns
+have_few_paired-returns t c = (
+  (λ f. absurd (true≢false (sym f))),
+  (λ h. absurd (c.loop-u.invariant (subst (λ (names : List ℕ). HavePaired c.args.graph.now c.args.pattern.now c.args.skipped c.args.depth c.args.s names c.args.ws.now) (sym (take_all c.loop-u.u-index c.args.us.now c.loop-u-test.false)) h))),
+)
+
+pub has_partner_in-returns : goal.has_partner_in-returns
+has_partner_in-returns t c = (
+  (λ f. absurd (true≢false (sym f))),
+  (λ h. absurd (c.loop-w.invariant (subst (λ (names : List ℕ). HasPartner c.args.graph.now c.args.pattern.now c.args.skipped c.args.depth c.args.s c.args.u names) (sym (take_all c.loop-w.w-index c.args.ws.now c.loop-w-test.false)) h))),
+)
+
+pub has_partner_among-returns : goal.has_partner_among-returns
+has_partner_among-returns t c = (
+  (λ f. absurd (true≢false (sym f))),
+  (λ h. absurd (c.loop-w.invariant (subst (λ (names : List ℕ). HaveCommonPartner c.args.graph.now c.args.pattern.now c.args.skipped c.args.depth c.args.s c.args.u names c.args.others.now) (sym (take_all c.loop-w.w-index c.args.names.now c.loop-w-test.false)) h))),
+)
+
+pub has_partner_in-loop-w-preserved : goal.has_partner_in-loop-w-preserved
+has_partner_in-loop-w-preserved t c = λ h.
+    let P = λ (w : ℕ). ArePairedExcept c.args.graph.now c.args.pattern.now c.args.skipped c.args.depth c.args.s c.args.u w in
+    elim (contains_more c.args.ws.now c.loop-w.w-index h.right c.loop-w-test.true h.in_right) [
+      | inl old ↦ c.loop-w.invariant (record { right = h.right; in_right = old; paired = h.paired })
       | inr same ↦ true≢false (sym (c.are_paired.ensures.1 (subst P (sym same) h.paired)) ∙ c.if-are_paired.false)
     ]

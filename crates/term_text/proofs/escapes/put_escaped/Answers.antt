@@ -1,5 +1,7 @@
-use Rattle.std.proofs.Common.{◌≡◌, ◌+◌, ◌-◌, ◌<◌, ◌≤◌, ◌++◌, take, drop, length, get_or, arith, sym, ap, ◌∙◌, subst}
-use Rattle.std.proofs.lemmas.List.{drop-take}
+use Rattle.std.proofs.Common.{◌≡◌, ◌+◌, ◌-◌, ◌<◌, ◌≤◌, [], ◌++◌, take, drop, length, get_or, arith, refl, sym, ap, ◌∙◌, subst, append-nil}
+use Rattle.std.specs.List.{flat_map}
+use Rattle.std.proofs.lemmas.List.{drop-take, take_all, length-drop}
+use Rattle.std.proofs.lemmas.Result.{on_ok_weaker}
 use Rattle.term_text.specs.Appending.{BeginsWith}
 use Rattle.term_text.specs.Escaping.{written_byte}
 use Rattle.term_text.proofs.AppendLemmas.{begins_then, raw_byte, byte_passed, byte_escaped}
@@ -35,3 +37,23 @@ loop-place-preserved c =
         kept = subst (λ v. BeginsWith old v.items) (sym w.buf-is) c.loop-place.invariant.kept;
       }
     ]
+
+pub loop-place-init : goal.loop-place-init
+loop-place-init c = record {
+  behind = omega arith;
+  text = refl;
+  kept = record { more = []; is = sym (append-nil c.args.buf.now.items) };
+}
+
+pub returns-clause-ok : goal.returns-clause-ok
+returns-clause-ok c =
+    let text = c.args.text.now in
+    let copied = c.loop-place.copied in
+    let whole : take c.loop-place.place text ≡ text = take_all c.loop-place.place text (omega arith) in
+    let run : take (length text - copied) (drop copied text) ≡ drop copied text = take_all (length text - copied) (drop copied text) (omega (arith, length-drop copied text)) in
+    on_ok_weaker c.put-2.result
+    (λ e. e ∙ (ap (λ l. c.loop-place.buf.items ++ l) (run ∙ ap (drop copied) (sym whole)) ∙ (c.loop-place.invariant.text ∙ ap (λ l. c.args.buf.now.items ++ flat_map (written_byte c.args.inside) l) whole)))
+    c.put-2.ensures.ok
+
+pub returns-clause-kept : goal.returns-clause-kept
+returns-clause-kept c = begins_then c.loop-place.invariant.kept c.put-2.ensures.kept
