@@ -8,10 +8,11 @@ ghost use Rattle.merge_graph.specs.MergedGraph.{name_at, same_label, AreFaces};
 ghost use Rattle.merge_graph.specs.Faces.{kept_face, lesser, next_face, KeepsFaces};
 
 use crate::face_table::FaceTable;
-use gk_base::{NoMemory, Term, Text};
+use gk_base::{NoMemory, Text};
 use std::alloc::Global;
+use term_list::TermRef;
 use term_table::Names;
-use term_text::put_term;
+use term_text::put_lent_term;
 
 /// For each name its face.
 pub fn faces(alloc: Global, names: &Names, labels: &[u32]) -> Result<Vec<u32>, NoMemory>
@@ -75,16 +76,15 @@ fn text_of(alloc: Global, names: &Names, place: u32) -> Result<Text, NoMemory>
     requires { place < length names.now }
     ensures { IfOk result (λ t. t ≡ text_at (texts_of names.now) place) }
 {
-    let term = term_of(alloc, names, place)?;
     let mut bytes = Vec::new(alloc);
-    put_term(&mut bytes, &term)?;
+    put_lent_term(&mut bytes, &term_of(names, place))?;
     Ok(Text::from_vec(bytes))
 }
 
-/// The term of a name, with texts of its own.
-pub(crate) fn term_of(alloc: Global, names: &Names, place: u32) -> Result<Term, NoMemory>
+/// The term of a name, lent.
+pub(crate) fn term_of(names: &Names, place: u32) -> TermRef<'_>
     requires { place < length names.now }
-    ensures { IfOk result (λ t. t ≡ name_at names.now place) }
+    ensures { result ≡ name_at names.now place }
 {
-    names.term(place).to_term(alloc)
+    names.term(place)
 }

@@ -12,10 +12,10 @@ ghost use Rattle.merge_graph.specs.Ranked.{IsJoinedOnce};
 
 use crate::faces::term_of;
 use crate::ranked::lines_by_rank;
-use gk_base::{NoMemory, Text, Triple};
+use gk_base::{NoMemory, Text};
 use std::alloc::Global;
 use term_table::Names;
-use term_text::put_triple;
+use term_text::put_lent_triple;
 
 /// The lines of the images of the rows, ascending by bytes, each once, one after another.
 ///
@@ -89,13 +89,13 @@ fn image_line(
     requires row { IsWithin (length names.now) row.now }
     ensures { IfOk result (λ t. t ≡ triple_text (image names.now faces.now row.now)) }
 {
-    let triple = Triple {
-        subject: term_of(alloc, names, faces[row[0] as usize])?,
-        predicate: term_of(alloc, names, row[1])?,
-        object: term_of(alloc, names, faces[row[2] as usize])?,
-    };
     buffer.clear();
-    put_triple(buffer, &triple)?;
+    put_lent_triple(
+        buffer,
+        &term_of(names, faces[row[0] as usize]),
+        &term_of(names, row[1]),
+        &term_of(names, faces[row[2] as usize]),
+    )?;
     Text::from_bytes(alloc, buffer)
 }
 

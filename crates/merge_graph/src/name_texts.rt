@@ -9,7 +9,7 @@ use crate::faces::term_of;
 use gk_base::NoMemory;
 use std::alloc::Global;
 use term_table::Names;
-use term_text::put_term;
+use term_text::put_lent_term;
 
 /// For each name a text, one after another in one region of memory.
 #[derive(Drop)]
@@ -62,7 +62,7 @@ pub fn texts_of_marked(alloc: Global, names: &Names, marks: &[bool]) -> Result<N
     let mut starts = Vec::with_capacity(alloc, names.len() as usize + 1)?;
     starts.push(0)?;
     for place in 0..names.len() {
-        put_marked(&mut bytes, alloc, names, marks[place as usize], place)?;
+        put_marked(&mut bytes, names, marks[place as usize], place)?;
         starts.push(bytes.len())?;
     }
     Ok(NameTexts { bytes, starts })
@@ -71,7 +71,6 @@ pub fn texts_of_marked(alloc: Global, names: &Names, marks: &[bool]) -> Result<N
 /// Appends the text of a name where it is marked.
 fn put_marked(
     bytes: &mut Vec<u8>,
-    alloc: Global,
     names: &Names,
     is_marked: bool,
     place: u32,
@@ -82,5 +81,5 @@ fn put_marked(
     if !is_marked {
         return Ok(());
     }
-    put_term(bytes, &term_of(alloc, names, place)?)
+    put_lent_term(bytes, &term_of(names, place))
 }

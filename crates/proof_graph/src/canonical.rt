@@ -1,6 +1,6 @@
 //! The canonical text of a proof.
 
-ghost use Rattle.std.specs.Prelude.{◌≡◌, ◌+◌, ◌++◌, ◌∷◌, [], map, OnOk, OnErr};
+ghost use Rattle.std.specs.Prelude.{◌≡◌, ◌+◌, ◌++◌, ◌∷◌, map, OnOk, OnErr};
 ghost use Rattle.std.specs.List.{flat_map};
 ghost use Rattle.std.specs.Fmt.{decimal};
 ghost use Rattle.term_text.specs.Appending.{BeginsWith};
@@ -9,7 +9,7 @@ ghost use Rattle.proof_graph.specs.CanonicalProof.{numbers_text, support_text, s
 use crate::{Proof, ProofStep, Support};
 use gk_base::{NoMemory, Text};
 use term_list::{TermRef, Terms};
-use term_text::put_term;
+use term_text::put_lent_term;
 
 /// Appends these bytes.
 fn put(buf: &mut Vec<u8>, piece: &[u8]) -> Result<(), NoMemory>
@@ -132,8 +132,7 @@ fn put_listed(buf: &mut Vec<u8>, term: &TermRef<'_>) -> Result<(), NoMemory>
     ensures ok { OnOk result (buf.new.items ≡ buf.old.items ++ listed_text term.now) }
     ensures kept { BeginsWith buf.old.items buf.new.items }
 {
-    let alloc = *buf.allocator();
-    put_term(buf, &term.to_term(alloc)?)?;
+    put_lent_term(buf, term)?;
     put(buf, b"\n")
 }
 

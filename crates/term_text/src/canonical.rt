@@ -18,11 +18,11 @@ pub fn put_term(buf: &mut Vec<u8>, term: &Term) -> Result<(), NoMemory>
         → Reads buf.new.items (length buf.old.items) term.now (length buf.new.items)) }
     ensures err { OnErr result (buf.new.items ≡ buf.old.items) }
 {
-    put_term_ref(buf, &TermRef::of(term))
+    put_lent_term(buf, &TermRef::of(term))
 }
 
 /// Appends the canonical text of a term that is lent. After `NoMemory` the buffer holds what it held before.
-pub(crate) fn put_term_ref(buf: &mut Vec<u8>, term: &TermRef<'_>) -> Result<(), NoMemory>
+pub fn put_lent_term(buf: &mut Vec<u8>, term: &TermRef<'_>) -> Result<(), NoMemory>
     ensures ok { OnOk result (buf.new.items ≡ buf.old.items ++ term_text term.now) }
     // Reading what was appended gives the term again, where N-Triples can spell it.
     ensures read_back { OnOk result (CanBeSpelled term.now
@@ -42,8 +42,28 @@ pub fn put_triple(buf: &mut Vec<u8>, triple: &Triple) -> Result<(), NoMemory>
     ensures ok { OnOk result (buf.new.items ≡ buf.old.items ++ triple_text triple.now) }
     ensures err { OnErr result (buf.new.items ≡ buf.old.items) }
 {
+    put_lent_triple(
+        buf,
+        &TermRef::of(&triple.subject),
+        &TermRef::of(&triple.predicate),
+        &TermRef::of(&triple.object),
+    )
+}
+
+/// Appends the canonical text of a triple of lent terms, which ends with LF. After `NoMemory` the buffer holds what it held
+/// before.
+pub fn put_lent_triple(
+    buf: &mut Vec<u8>,
+    subject: &TermRef<'_>,
+    predicate: &TermRef<'_>,
+    object: &TermRef<'_>,
+) -> Result<(), NoMemory>
+    ensures ok { OnOk result (buf.new.items ≡ buf.old.items
+        ++ triple_text (record { subject = subject.now; predicate = predicate.now; object = object.now })) }
+    ensures err { OnErr result (buf.new.items ≡ buf.old.items) }
+{
     let before = buf.len();
-    let done = append_triple(buf, triple);
+    let done = append_triple(buf, subject, predicate, object);
     if done.is_err() {
         buf.truncate(before);
     }
@@ -51,15 +71,21 @@ pub fn put_triple(buf: &mut Vec<u8>, triple: &Triple) -> Result<(), NoMemory>
 }
 
 /// Appends the canonical text of a triple, or a front of it where memory runs out.
-fn append_triple(buf: &mut Vec<u8>, triple: &Triple) -> Result<(), NoMemory>
-    ensures ok { OnOk result (buf.new.items ≡ buf.old.items ++ triple_text triple.now) }
+fn append_triple(
+    buf: &mut Vec<u8>,
+    subject: &TermRef<'_>,
+    predicate: &TermRef<'_>,
+    object: &TermRef<'_>,
+) -> Result<(), NoMemory>
+    ensures ok { OnOk result (buf.new.items ≡ buf.old.items
+        ++ triple_text (record { subject = subject.now; predicate = predicate.now; object = object.now })) }
     ensures kept { BeginsWith buf.old.items buf.new.items }
 {
-    append_term(buf, &TermRef::of(&triple.subject))?;
+    append_term(buf, subject)?;
     put(buf, b" ")?;
-    append_term(buf, &TermRef::of(&triple.predicate))?;
+    append_term(buf, predicate)?;
     put(buf, b" ")?;
-    append_term(buf, &TermRef::of(&triple.object))?;
+    append_term(buf, object)?;
     put(buf, b" .\n")
 }
 

@@ -17,8 +17,8 @@ use term_table::Names;
 
 /// The report of the classes of names with equal labels: one line for each class of two or more, with the members'
 /// canonical texts in the order of their bytes and single spaces between them. The lines are in the order of their
-/// first members. A label may be any number; labels below the number of names cost least. `threads` says how many threads make
-/// the texts, the caller's among them; with two or more all processors sort them. The report is the same.
+/// first members. A label may be any number; labels below the number of names cost least. `threads` says how many threads may
+/// make the texts, the caller's among them; with two or more all processors may sort them. The report is the same.
 pub fn report<R: Threads + Sync>(
     rt: &R,
     alloc: Global,

@@ -22,6 +22,6 @@ mod links;
 mod member;
 mod report_bytes;
 
-pub use canonical::{put_term, put_triple};
+pub use canonical::{put_lent_term, put_lent_triple, put_term, put_triple};
 pub use class_report::report;
 pub use report_bytes::Report;

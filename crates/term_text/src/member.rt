@@ -7,7 +7,7 @@ ghost use Rattle.term_text.specs.CanonicalText.{term_text, texts_of};
 ghost use Rattle.term_text.specs.Labels.{is_shared_in};
 ghost use Rattle.term_text.specs.Members.{members_for, members_within, is_before};
 
-use crate::canonical::put_term_ref;
+use crate::canonical::put_lent_term;
 use crate::label_counts::LabelCounts;
 use gk_base::{NoMemory, Text};
 use rayon::prelude::*;
@@ -116,7 +116,7 @@ fn text_of(alloc: Global, term: &TermRef<'_>) -> Result<Text, NoMemory>
     ensures { IfOk result (λ t. t ≡ term_text term.now) }
 {
     let mut bytes = Vec::with_capacity(alloc, usual_length(term))?;
-    put_term_ref(&mut bytes, term)?;
+    put_lent_term(&mut bytes, term)?;
     Ok(Text::from_vec(bytes))
 }
 

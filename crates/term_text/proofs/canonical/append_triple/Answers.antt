@@ -1,4 +1,4 @@
-use Rattle.std.proofs.Common.{◌∷◌, [], ◌++◌, ap, ◌∙◌}
+use Rattle.std.proofs.Common.{◌∷◌, []}
 use Rattle.std.proofs.lemmas.Result.{on_ok_weaker}
 use Rattle.term_text.specs.CanonicalText.{term_text}
 use Rattle.term_text.proofs.AppendLemmas.{begins_then, pieces_joined}
@@ -6,9 +6,9 @@ use Rattle.term_text.proofs.canonical.append_triple.Goals as goal
 
 pub returns-clause-ok : goal.returns-clause-ok
 returns-clause-ok c =
-    let t = c.args.triple.now in
     on_ok_weaker c.put-3.result
-    (λ last. pieces_joined _ (term_text t.subject) (term_text t.predicate) (term_text t.object) (0x20 ∷ 0x2E ∷ 0x0A ∷ []) _ _ _ _ _ _ (c.in_ok-append_term.ensures.ok ∙ ap (λ term. c.args.buf.now.items ++ term_text term) c.of.ensures) c.in_ok-put.ensures.ok (c.in_ok-append_term-2.ensures.ok ∙ ap (λ term. c.put.new.buf.items ++ term_text term) c.of-2.ensures) c.in_ok-put-2.ensures.ok (c.in_ok-append_term-3.ensures.ok ∙ ap (λ term. c.put-2.new.buf.items ++ term_text term) c.of-3.ensures) last)
+    (λ last. pieces_joined _ (term_text c.args.subject.now) (term_text c.args.predicate.now) (term_text c.args.object.now) (0x20 ∷ 0x2E ∷ 0x0A ∷ []) _ _ _ _ _ _
+    c.in_ok-append_term.ensures.ok c.in_ok-put.ensures.ok c.in_ok-append_term-2.ensures.ok c.in_ok-put-2.ensures.ok c.in_ok-append_term-3.ensures.ok last)
     c.put-3.ensures.ok
 
 pub returns-clause-kept : goal.returns-clause-kept
