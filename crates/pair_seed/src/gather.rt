@@ -1,6 +1,7 @@
 //! The partners of one entity: gathered key by key, then sorted, each once.
 
-ghost use Rattle.std.specs.Prelude.{◌≡◌, ◌<◌, ℕ, [], ◌∷◌, ⊤, Contains, IfOk, length, slice_get, Some};
+ghost use Rattle.std.specs.Prelude.{◌≡◌, ◌<◌, ◌↔◌, ℕ, [], ◌∷◌, ⊤, Contains, IfOk, length, slice_get, Some};
+ghost use Rattle.std.specs.List.Sorted.{IsStrictlyIncreasing};
 ghost use Rattle.chase_laws.specs.Shape.{Shape};
 ghost use Rattle.chase_laws.specs.Graph.{IsLiteral};
 ghost use Rattle.pair_seed.specs.Folds.{Holds, Serves};
@@ -145,6 +146,20 @@ fn find(
     Ok(())
 }
 
+/// Puts numbers in ascending order, each once.
+fn put_in_order(near: &mut Vec<u32>) -> Result<(), NoMemory>
+    ensures ascending { IfOk result (λ _. IsStrictlyIncreasing near.new.items) }
+    ensures same { IfOk result (λ _. (b : ℕ) → Contains near.new.items b ↔ Contains near.old.items b) }
+{
+    // None or one are in order, and most names go with no more.
+    if near.len() > 1 {
+        // What one literal leads to ascends, so these are some ascending runs, which a stable sort merges.
+        near.sort()?;
+        near.dedup();
+    }
+    Ok(())
+}
+
 /// Puts into `near` what makes a candidate with `a`, which is the lower one, ascending.
 pub(crate) fn partners(
     graph: &Graph,
@@ -157,8 +172,6 @@ pub(crate) fn partners(
     ensures { IfOk result (λ _. ArePartners graph.now patterns.now a near.new.items) }
 {
     find(graph, folds, patterns, a, near)?;
-    // What one literal leads to ascends, so this is some ascending runs, which a stable sort merges.
-    near.sort()?;
-    near.dedup();
+    put_in_order(near)?;
     Ok(())
 }
