@@ -3,4 +3,5 @@ mod HintMoves
 mod Jobs
 mod Passes
 mod Reaching
+mod TellingMore
 mod Wakings

@@ -1,6 +1,6 @@
 //! What a worker does with the chase in a turn: it settles the jobs that it has searched, and takes pairs for new ones.
 
-ghost use Rattle.std.specs.Prelude.{◌≡◌, ◌++◌, ◌<◌, ◌^◌, ◌↔◌, [], ℕ, List, All, IfSome, IsTrue, IsSome, None, Some, MatchOption, length, slice_index_or};
+ghost use Rattle.std.specs.Prelude.{◌≡◌, ◌++◌, ◌<◌, ◌≤◌, ◌^◌, ◌↔◌, [], ℕ, List, All, IfSome, IsTrue, IsSome, None, Some, MatchOption, length, slice_index_or};
 ghost use Rattle.chase_laws.specs.declared.entry.Entry.{Entry};
 ghost use Rattle.chase_laws.specs.Core.{ListsNear, PairAt};
 ghost use Rattle.chase_core.specs.declared.ticket.Outcome.TheVariants.{Found, Missed};
@@ -22,6 +22,7 @@ use crate::shared::Shared;
 use crate::workspace::{Job, Progress, Workspace};
 use chase_core::{Settled, Ticket, Woken};
 use label_board::Board;
+use paired_search::View;
 
 /// What a worker does after a turn.
 #[derive(Clone, Copy)]
@@ -67,7 +68,7 @@ fn settle_found(
     requires found { IsFoundBy shared.old.chase.setup.task ticket job.old.view.pairs (Found job.old.finding) }
     requires pending { All (λ p. p < count) pending.old.items }
     requires count { length shared.old.chase.setup.task.pairs ≡ count }
-    ensures settles { (answer : Settled) × Settles shared.old.chase ticket job.old.view.pairs (Found job.old.finding) answer shared.new.chase }
+    ensures settles { (answer : Settled) × Settles shared.old.chase ticket job.new.view.pairs (Found job.old.finding) answer shared.new.chase }
     ensures free { job.new.progress ≡ Free }
     ensures setup { shared.new.chase.setup ≡ shared.old.chase.setup }
     ensures board { shared.new.scribe.board ≡ shared.old.scribe.board }
@@ -96,28 +97,32 @@ fn settle_missed(
     board: &Board,
     job: &mut Job,
     ticket: Ticket,
+    spare: &mut View,
     woken: &mut Woken,
 ) -> bool
     requires board { board_over shared.old.chase.setup shared.old.scribe.board ≡ board.now }
     requires place { IsPlace shared.old.chase.setup.widest board.now job.old }
+    requires spare { shared.old.chase.setup.widest ≤ spare.old.room }
     requires read { job.old.watcher.read ≡ job.old.view.pairs }
     requires since { IsSince shared.old.chase.book.journal job.old.watcher.since job.old.since }
     requires ends { PairAt shared.old.chase.setup.task ticket.pair ticket.a ticket.b }
     requires near { ListsNear shared.old.chase.setup.task ticket.a ticket.b job.old.view.pairs }
     requires found { IsFoundBy shared.old.chase.setup.task ticket job.old.view.pairs Missed }
-    ensures settles { (answer : Settled) × Settles shared.old.chase ticket job.old.view.pairs Missed answer shared.new.chase }
+    ensures settles { (answer : Settled) × Settles shared.old.chase ticket job.new.view.pairs Missed answer shared.new.chase }
     ensures free { job.new.progress ≡ Free }
     ensures setup { shared.new.chase.setup ≡ shared.old.chase.setup }
     ensures board { shared.new.scribe.board ≡ shared.old.scribe.board }
     ensures book { shared.new.chase.book ≡ shared.old.chase.book }
     ensures place { IsPlace shared.old.chase.setup.widest board.now job.new }
+    ensures spare { shared.old.chase.setup.widest ≤ spare.new.room }
 {
     let settled = shared.settle_missed(
         board,
         &mut job.watcher,
         job.since,
         ticket,
-        &job.view,
+        &mut job.view,
+        spare,
         woken,
     );
     job.progress = Progress::Free;
@@ -131,26 +136,29 @@ fn settle_job(
     shared: &mut Shared<'_>,
     board: &Board,
     job: &mut Job,
+    spare: &mut View,
     woken: &mut Woken,
     pending: &mut Vec<u32>,
     count: u32,
 ) -> bool
     requires board { board_over shared.old.chase.setup shared.old.scribe.board ≡ board.now }
     requires place { IsPlace shared.old.chase.setup.widest board.now job.old }
+    requires spare { shared.old.chase.setup.widest ≤ spare.old.room }
     requires job { IsJob shared.old.chase.setup.task shared.old.chase.book.journal job.old }
     requires pending { All (λ p. p < count) pending.old.items }
     requires count { length shared.old.chase.setup.task.pairs ≡ count }
-    ensures settles { SettlesBy shared.old.chase job.old.view.pairs job.old.finding job.old.progress shared.new.chase job.new.progress }
+    ensures settles { SettlesBy shared.old.chase job.new.view.pairs job.old.finding job.old.progress shared.new.chase job.new.progress }
     ensures settled { ¬ (IsSearched job.new.progress) }
     ensures setup { shared.new.chase.setup ≡ shared.old.chase.setup }
     ensures board { shared.new.scribe.board ≡ shared.old.scribe.board }
     ensures grows { (more : List Entry) × (shared.new.chase.book.journal ≡ shared.old.chase.book.journal ++ more) }
     ensures pending { All (λ p. p < count) pending.new.items }
     ensures place { IsPlace shared.old.chase.setup.widest board.now job.new }
+    ensures spare { shared.old.chase.setup.widest ≤ spare.new.room }
     ensures job { IsJob shared.new.chase.setup.task shared.new.chase.book.journal job.new }
 {
     match job.progress {
-        Progress::Missed(ticket) => settle_missed(shared, board, job, ticket, woken),
+        Progress::Missed(ticket) => settle_missed(shared, board, job, ticket, spare, woken),
         Progress::Found(ticket) => {
             settle_found(shared, board, job, ticket, woken, pending, count)
         }
@@ -165,6 +173,7 @@ fn settle_all(
     board: &Board,
     jobs: &mut [Job],
     used: usize,
+    spare: &mut View,
     woken: &mut Woken,
     pending: &mut Vec<u32>,
     count: u32,
@@ -172,6 +181,7 @@ fn settle_all(
     requires board { board_over shared.old.chase.setup shared.old.scribe.board ≡ board.now }
     requires jobs { All (IsJob shared.old.chase.setup.task shared.old.chase.book.journal) jobs.old }
     requires places { All (IsPlace shared.old.chase.setup.widest board.now) jobs.old }
+    requires spare { shared.old.chase.setup.widest ≤ spare.old.room }
     requires pending { All (λ p. p < count) pending.old.items }
     requires count { length shared.old.chase.setup.task.pairs ≡ count }
     ensures settled { (k : ℕ) (d : Job) → k < used → k < length jobs.old → ¬ (IsSearched (slice_index_or jobs.new k d).progress) }
@@ -179,12 +189,13 @@ fn settle_all(
     ensures board { shared.new.scribe.board ≡ shared.old.scribe.board }
     ensures grows { (more : List Entry) × (shared.new.chase.book.journal ≡ shared.old.chase.book.journal ++ more) }
     ensures pending { All (λ p. p < count) pending.new.items }
+    ensures spare { shared.old.chase.setup.widest ≤ spare.new.room }
     ensures jobs { All (IsJob shared.new.chase.setup.task shared.new.chase.book.journal) jobs.new }
     ensures places { All (IsPlace shared.old.chase.setup.widest board.now) jobs.new }
 {
     let mut wasted: usize = 0;
     for k in 0..used.min(jobs.len()) {
-        let is_late = settle_job(shared, board, &mut jobs[k], woken, pending, count);
+        let is_late = settle_job(shared, board, &mut jobs[k], spare, woken, pending, count);
         wasted = wasted.saturating_add(usize::from(is_late));
     }
     wasted
@@ -424,6 +435,7 @@ pub fn settle_and_take(
         board,
         workspace.jobs.as_mut_slice(),
         workspace.used,
+        &mut workspace.spare,
         &mut workspace.woken,
         &mut workspace.pending,
         workspace.count,

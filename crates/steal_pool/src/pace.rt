@@ -18,7 +18,7 @@ pub struct Settlement {
     pub left: usize,
     /// How many pairs were settled.
     pub settled: usize,
-    /// How many of these were searched for nothing: their ends were joined by then, or a label had changed.
+    /// How many of these were searched for nothing: their ends were joined by then, or more may be the same.
     pub wasted: usize,
     /// Whether it woke pairs.
     pub woke: bool,

@@ -1,6 +1,6 @@
 //! The chase with the scribe of its board, as a value with a journal.
 
-ghost use Rattle.std.specs.Prelude.{◌≡◌, ◌++◌, ◌<◌, ◌^◌, ℕ, List, All, IfSome, IsTrue, MatchOption, length};
+ghost use Rattle.std.specs.Prelude.{◌≡◌, ◌≤◌, ◌++◌, ◌<◌, ◌^◌, ℕ, List, All, IfSome, IsTrue, MatchOption, length};
 ghost use Rattle.chase_laws.specs.declared.entry.Entry.{Entry};
 ghost use Rattle.chase_laws.specs.Joined.{Joined};
 ghost use Rattle.chase_laws.specs.View.{same_by};
@@ -13,6 +13,7 @@ ghost use Rattle.chase_core.specs.Taking.{TakesFirst, TakesHint, pair_of};
 ghost use Rattle.label_board.specs.Seen.{AllShown};
 ghost use Rattle.steal_pool.specs.Bases.{IsSince, base_with, board_over};
 
+use crate::search::refresh;
 use chase_core::held_law::law_held;
 use chase_core::{Chase, Outcome, Settled, Setup, Ticket, Woken};
 use chase_laws::Entry;
@@ -69,32 +70,6 @@ fn meet_scribe(board: &Board, watcher: &mut Watcher, scribe: &mut Scribe)
 {
     law_met();
     board.meet(watcher, scribe);
-}
-
-/// Settles a pair of which a search found nothing. A view that is told to be fresh has the present labels, and is not compared
-/// with them.
-#[inline]
-fn settle_missed_by(
-    chase: &mut Chase<'_>,
-    ticket: Ticket,
-    view: &View,
-    woken: &mut Woken,
-    is_fresh: bool,
-) -> Settled
-    requires ends { PairAt chase.old.setup.task ticket.pair ticket.a ticket.b }
-    requires near { ListsNear chase.old.setup.task ticket.a ticket.b view.now.pairs }
-    requires outcome { IsRightOutcome chase.old.setup.task (state_in chase.old) ticket view.now.pairs Missed }
-    requires fresh { IsTrue is_fresh → IsPresent (state_in chase.old) view.now.pairs }
-    ensures settles { Settles chase.old ticket view.now.pairs Missed result chase.new }
-    ensures woken { Notes chase.old ticket.pair result chase.new woken.old.room woken.new.list }
-    ensures setup { chase.new.setup ≡ chase.old.setup }
-    ensures book { chase.new.book ≡ chase.old.book }
-{
-    if is_fresh {
-        chase.settle_missed(ticket, view, woken)
-    } else {
-        chase.settle(ticket, view, Outcome::Missed, woken)
-    }
 }
 
 impl<'a> Shared<'a> {
@@ -164,9 +139,9 @@ impl<'a> Shared<'a> {
     }
 
     /// Settles a pair that was taken, of which a search found nothing with a view that the watcher filled since there were so
-    /// many entries. The watcher meets the scribe first; where there are no more entries, the view has the present labels, and
-    /// nothing is compared. Nothing is entered, so nothing is posted, and no finding is passed on: this is what becomes of
-    /// nearly all pairs.
+    /// many entries. Where there are no more entries, the watcher meets the scribe: the view has the present labels, and nothing is
+    /// compared. Else the view is what the board shows now, if that tells of no more that is the same. Nothing is entered, so nothing
+    /// is posted, and no finding is passed on: this is what becomes of nearly all pairs.
     #[inline]
     pub(crate) fn settle_missed(
         &mut self,
@@ -174,17 +149,20 @@ impl<'a> Shared<'a> {
         watcher: &mut Watcher,
         since: usize,
         ticket: Ticket,
-        view: &View,
+        view: &mut View,
+        spare: &mut View,
         woken: &mut Woken,
     ) -> Settled
         requires board { board_over self.old.chase.setup self.old.scribe.board ≡ board.now }
-        requires watcher { (watcher.old.board ≡ board.now.id) × (watcher.old.read ≡ view.now.pairs) }
+        requires watcher { (watcher.old.board ≡ board.now.id) × (watcher.old.read ≡ view.old.pairs) }
         requires since { IsSince self.old.chase.book.journal watcher.old.since since }
+        requires rooms { (self.old.chase.setup.widest ≤ view.old.room) × (self.old.chase.setup.widest ≤ spare.old.room) }
         requires ends { PairAt self.old.chase.setup.task ticket.pair ticket.a ticket.b }
-        requires near { ListsNear self.old.chase.setup.task ticket.a ticket.b view.now.pairs }
-        requires found { IsFoundBy self.old.chase.setup.task ticket view.now.pairs Missed }
-        ensures settles { Settles self.old.chase ticket view.now.pairs Missed result self.new.chase }
-        ensures watcher { watcher.new ≡ watcher.old }
+        requires near { ListsNear self.old.chase.setup.task ticket.a ticket.b view.old.pairs }
+        requires found { IsFoundBy self.old.chase.setup.task ticket view.old.pairs Missed }
+        ensures settles { Settles self.old.chase ticket view.new.pairs Missed result self.new.chase }
+        ensures watcher { watcher.new.board ≡ watcher.old.board }
+        ensures rooms { (self.old.chase.setup.widest ≤ view.new.room) × (self.old.chase.setup.widest ≤ spare.new.room) }
         ensures setup { self.new.chase.setup ≡ self.old.chase.setup }
         ensures board { self.new.scribe.board ≡ self.old.scribe.board }
         ensures book { self.new.chase.book ≡ self.old.chase.book }
@@ -192,8 +170,12 @@ impl<'a> Shared<'a> {
     {
         law_fresh();
         self.holds();
-        meet_scribe(board, watcher, &mut self.scribe);
         let is_fresh = self.chase.book().journal().len() == since;
-        settle_missed_by(&mut self.chase, ticket, view, woken, is_fresh)
+        if is_fresh {
+            meet_scribe(board, watcher, &mut self.scribe);
+            return self.chase.settle_missed(ticket, view, woken);
+        }
+        refresh(self.chase.setup(), board, &ticket, watcher, view, spare);
+        self.chase.settle(ticket, view, Outcome::Missed, woken)
     }
 }

@@ -17,5 +17,5 @@ take_next-next-requires-clause-workspace c =
       passes = w.passes;
       pending = search rules;
       places = subst (All (IsPlace S.widest c.args.board.now)) (sym (take_at jobs _ c.args.workspace.now.jobs.len long)) c.settle_all-wasted.ensures.places;
-      spare = w.spare;
+      spare = c.settle_all-wasted.ensures.spare;
     }))
