@@ -1,5 +1,6 @@
 -- The event that each answer stands for.
-use Rattle.std.proofs.Common.{List, [], ◌∷◌, ℕ, suc, Some, All, slice_get, slice_set, get_or, length, ◌≡◌, ◌≢◌, ◌<◌, ◌⊎◌, ◌↔◌, inl, inr, ◌==◌, refl, sym, ◌∙◌, ap, subst, arith, eqb-true, eq-eqb, ne_eqb, ap₂, zero}
+use Rattle.std.proofs.Common.{List, [], ◌∷◌, ℕ, suc, Option, Some, None, false, All, slice_get, slice_index, slice_set, get_or, length, ◌≡◌, ◌≢◌, ◌<◌, ◌⊎◌, ◌↔◌, inl, inr, ◌==◌, refl, sym, ◌∙◌, ap, subst, arith, eqb-true, eq-eqb, ne_eqb, ap₂, zero}
+use Rattle.std.specs.Option.{is_some, IfNone}
 use Rattle.std.proofs.lemmas.Bool.{cases_Bool, cond-true, cond-false, both_ways}
 use Rattle.std.proofs.lemmas.Option.{slice_get_within, slice_get-get_or, get_or_from_slice_get, same_Some}
 use Rattle.chase_laws.specs.declared.pair_state.PairState.{PairState}
@@ -127,3 +128,11 @@ never_again old new t view found (settled.Entered place) present s node seen now
 never_again old new t view found settled.Missed present s node seen now e = absurd (cc)
 never_again old new t view (outcome.Found f) (settled.Reopened n l m) present s node seen now e = absurd s
 never_again old new t view outcome.Missed (settled.Reopened n l m) present s node seen now e = let o = s.0.1 in o.3 (present o.0 o.1 o.2)
+
+-- ---- whether a view has the present labels
+
+-- where no label of a view was found that is not the present one, each is
+pub all_present : (first : Option (ℕ × ℕ × ℕ)) (labels : List ℕ) (view : List (ℕ × ℕ)) → is_some first ≡ false → IfNone first ((k n l : ℕ) → slice_get view k ≡ Some (n, l) → l ≡ slice_index labels n) →
+    (n l : ℕ) → label_in view n ≡ Some l → l ≡ slice_index labels n
+all_present (Some f) labels view e each n l at = absurd (cc)
+all_present None labels view e each n l at = let r = label_at view n l at in each r.0 n l r.1

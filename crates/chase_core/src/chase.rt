@@ -1,6 +1,6 @@
 //! `Chase`: which names are the same so far, where each pair stands, and the calls that go on from there.
 
-ghost use Rattle.std.specs.Prelude.{◌≡◌, ◌≢◌, ◌<◌, ◌≤◌, ◌++◌, ◌↔◌, ◌⊎◌, List, ℕ, IfOk, IfSome, IfNone, IsTrue, OnSome, MatchOption, Some, length, slice_get};
+ghost use Rattle.std.specs.Prelude.{◌≡◌, ◌≢◌, ◌<◌, ◌≤◌, ◌++◌, ◌↔◌, ◌⊎◌, List, ℕ, IfOk, IfSome, IfNone, IsFalse, IsTrue, OnSome, MatchOption, Some, length, slice_get};
 ghost use Rattle.std.specs.Option.{ForSome};
 ghost use Rattle.std.specs.List.{range_with_len};
 ghost use Rattle.chase_laws.specs.declared.entry.Entry.{Entry};
@@ -9,6 +9,7 @@ ghost use Rattle.chase_laws.specs.Joined.{Joined};
 ghost use Rattle.chase_laws.specs.Core.{PairAt, ListsNear, IsPresent, Event, Happens, Run, IsFinished, opening};
 ghost use Rattle.chase_laws.specs.Core.Event.{Already as AlreadyJoined, Miss, Recall};
 ghost use Rattle.list_pool.specs.Pool.{without};
+ghost use Rattle.chase_core.specs.declared.ticket.Outcome.{Outcome};
 ghost use Rattle.chase_core.specs.declared.ticket.Outcome.TheVariants.{Missed};
 ghost use Rattle.chase_core.specs.declared.ticket.Settled.TheVariants.{Already, Reopened};
 ghost use Rattle.chase_core.specs.Running.{state_in, IsRunning};
@@ -18,7 +19,10 @@ ghost use Rattle.chase_core.specs.Settling.{IsRightOutcome, RiseInOrder, Settles
 ghost use Rattle.chase_core.specs.Present.{SettlesPresent, IsUnmatchedBy, CoversLabels};
 
 use crate::recall::recall_parts;
-use crate::settle::{settle_missed_parts, settle_parts, settle_present, settle_unmatched_parts};
+use crate::settle::{
+    is_present, settle_joined_parts, settle_missed_parts, settle_parts, settle_present,
+    settle_unmatched_parts,
+};
 use crate::table::PairTable;
 use crate::take::{take_parts, take_unseen_parts, ticket_of};
 use crate::tried::finds_nothing;
@@ -180,6 +184,28 @@ impl<'a> Chase<'a> {
     {
         law_core();
         settle_missed_parts(self.setup, &self.book, &mut self.table, ticket, view, woken)
+    }
+
+    /// Settles a pair that was handed out where its ends are joined by now, with no search, and answers whether they are. Where they
+    /// are not, the chase stays as it was.
+    pub fn settle_joined(&mut self, ticket: Ticket) -> bool
+        requires { PairAt self.old.setup.task ticket.pair ticket.a ticket.b }
+        ensures settles { IsTrue result → (view : List (ℕ × ℕ)) (found : Outcome) → Settles self.old ticket view found Already self.new }
+        ensures joined { IsTrue result ↔ Joined self.old.book.journal ticket.a ticket.b }
+        ensures unchanged { IsFalse result → self.new ≡ self.old }
+        ensures setup { self.new.setup ≡ self.old.setup }
+        ensures book { self.new.book ≡ self.old.book }
+    {
+        law_core();
+        settle_joined_parts(self.setup, &self.book, &mut self.table, ticket)
+    }
+
+    /// Whether a view of what is near to a pair's ends has the present labels.
+    pub fn is_present(&self, ticket: Ticket, view: &View) -> bool
+        requires { ListsNear self.now.setup.task ticket.a ticket.b view.now.pairs }
+        ensures { IsTrue result → IsPresent (state_in self.now) view.now.pairs }
+    {
+        is_present(self.setup, &self.book, ticket, view)
     }
 
     /// Gives all pairs back that are handed out: each Flying pair becomes Ready, in ascending order at the end of the

@@ -1,9 +1,10 @@
 -- Labels in a view whose names ascend.
-use Rattle.std.proofs.Common.{List, [], ◌∷◌, ℕ, zero, suc, Some, None, get_or, length, ◌≡◌, ◌≢◌, ◌<◌, ◌==◌, eq-eqb, refl, sym, ◌∙◌, ap, subst, arith}
+use Rattle.std.proofs.Common.{List, [], ◌∷◌, ℕ, zero, suc, false, All, Option, Some, None, get_or, length, ◌≡◌, ◌≢◌, ◌<◌, ◌==◌, eq-eqb, refl, sym, ◌∙◌, ap, subst, arith, eqb-true}
 use Rattle.std.specs.List.Sorted.{IsNonDecreasingBy}
-use Rattle.std.proofs.lemmas.Bool.{cond-true, cond-false, ne_eqb, cases_eq, cases_lt}
+use Rattle.std.proofs.lemmas.Bool.{cond-true, cond-false, ne_eqb, cases_Bool, cases_eq, cases_lt}
+use Rattle.std.proofs.lemmas.Option.{same_Some}
 use Rattle.std.proofs.Common.{inl, inr}
-use Rattle.chase_laws.specs.View.{label_in}
+use Rattle.chase_laws.specs.View.{label_in, both_equal, same_by}
 use Rattle.paired_search.specs.Held.{Ascends}
 use Rattle.paired_search.specs.Kept.{IsCountBelow}
 
@@ -42,3 +43,20 @@ ascends_weakly pairs asc i j d le l = elim (cases_eq i j) [
   | inl e ↦ (let h : (get_or pairs i d).0 ≡ (get_or pairs j d).0 = ap (λ (k : ℕ). (get_or pairs k d).0) e in omega arith)
   | inr ne ↦ (let h = asc i j d (omega arith) l in omega arith)
 ]
+
+-- where each name has itself for its label, no two are the same
+own_label : (pairs : List (ℕ × ℕ)) (n l : ℕ) → All (λ p. p.1 ≡ p.0) pairs → label_in pairs n ≡ Some l → l ≡ n
+own_label [] n l own h = absurd (cc)
+own_label (p ∷ ps) n l own h = elim (cases_Bool (p.0 == n)) [
+  | inl t ↦ sym (same_Some p.1 l (sym (cond-true (p.0 == n) (Some p.1) (label_in ps n) t) ∙ h)) ∙ own 0 p (omega arith) ∙ eqb-true p.0 n t
+  | inr f ↦ own_label ps n l (λ k d within. own (suc k) d (omega arith)) (sym (cond-false (p.0 == n) (Some p.1) (label_in ps n) f) ∙ h)
+]
+
+both_apart : (o p : Option ℕ) (m n : ℕ) → ((k : ℕ) → o ≡ Some k → k ≡ m) → ((k : ℕ) → p ≡ Some k → k ≡ n) → m ≢ n → both_equal o p ≡ false
+both_apart (Some k) (Some l) m n left right other = ne_eqb k l (λ e. other (sym (left k refl) ∙ e ∙ right l refl))
+both_apart (Some k) None m n left right other = refl
+both_apart None p m n left right other = refl
+
+pub own_apart : (pairs : List (ℕ × ℕ)) (m n : ℕ) → All (λ p. p.1 ≡ p.0) pairs → m ≢ n → false ≡ same_by pairs m n
+own_apart pairs m n own other =
+    rw (ne_eqb m n other, both_apart (label_in pairs m) (label_in pairs n) m n (λ k. own_label pairs m k own) (λ k. own_label pairs n k own) other) refl

@@ -1,13 +1,14 @@
 -- What a view keeps beside what contracts see, and a step of its look-up (this project's own).
-use Rattle.std.specs.Prelude.{List, ℕ, length, slice_index_or, ◌<◌, ◌≤◌, ◌^◌}
+use Rattle.std.specs.Prelude.{List, ℕ, Bool, All, IsTrue, length, slice_index_or, ◌≡◌, ◌<◌, ◌≤◌, ◌^◌}
 use Rattle.paired_search.specs.Held.{Ascends}
 
--- what holds of a view's fields: the names ascend, and there is room
-pub record IsView (pairs : List (ℕ × ℕ)) (room capacity : ℕ) : Type 0 where
+-- what holds of a view's fields: the names ascend, there is room, and where it is said that labels are the names' own, they are
+pub record IsView (pairs : List (ℕ × ℕ)) (room capacity : ℕ) (own : Bool) : Type 0 where
   pub ascends : Ascends pairs
   pub within : length pairs ≤ room
   pub reserved : room ≤ capacity
   pub few : room < 2 ^ 32
+  pub labels : IsTrue own → All (λ p. p.1 ≡ p.0) pairs
 
 -- the names below a number, of a list in which they ascend, are the first ones
 pub record IsCountBelow (pairs : List (ℕ × ℕ)) (node count : ℕ) : Type 0 where

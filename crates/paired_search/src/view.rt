@@ -17,6 +17,8 @@ use std::marker::Model;
 pub struct View {
     pairs: Vec<(u32, u32)>,
     room: u32,
+    /// Whether each name has itself for its label. Then no two are the same, and none is looked up.
+    own: bool,
 }
 
 impl Model for View {
@@ -28,7 +30,7 @@ impl Model for View {
 
     ghost view = { λ v. record { pairs = v.pairs.items; room = v.room } };
 
-    ghost invariant = { λ v. IsView v.pairs.items v.room (vec_capacity v.pairs) };
+    ghost invariant = { λ v. IsView v.pairs.items v.room (vec_capacity v.pairs) v.own };
 }
 
 /// How many of the names are below `node`.
@@ -64,6 +66,7 @@ impl View {
         Ok(View {
             pairs: Vec::with_capacity(alloc, room as usize)?,
             room,
+            own: true,
         })
     }
 
@@ -73,6 +76,7 @@ impl View {
         ensures room { self.new.room ≡ self.old.room }
     {
         self.pairs.clear();
+        self.own = true;
     }
 
     /// Adds a name with its label. There has to be room, and the name has to be above the last one.
@@ -82,6 +86,7 @@ impl View {
         ensures pairs { self.new.pairs ≡ self.old.pairs ++ (node, label) ∷ [] }
         ensures room { self.new.room ≡ self.old.room }
     {
+        self.own = self.own && node == label;
         self.pairs.push_reserved((node, label));
     }
 
@@ -122,6 +127,9 @@ impl View {
     {
         if m == n {
             return true;
+        }
+        if self.own {
+            return false;
         }
         match (self.label(m), self.label(n)) {
             (Some(k), Some(l)) => k == l,

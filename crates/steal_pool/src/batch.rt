@@ -13,10 +13,11 @@ ghost use Rattle.steal_pool.specs.declared.workspace.Progress.TheVariants.{Free}
 ghost use Rattle.steal_pool.specs.Workspaces.{IsPlace, IsOwnDeque, IsWorkspace, ReachEach, Thief};
 ghost use Rattle.label_board.specs.Seen.{SeenBoard};
 ghost use Rattle.steal_pool.specs.Bases.{IsSince, board_over};
-ghost use Rattle.steal_pool.specs.Batches.{IsJob, IsSearched, SettlesBy, pair_in};
+ghost use Rattle.steal_pool.specs.Batches.{IsJob, IsThrough, SettlesBy, pair_in};
 
 use crate::hints::Thief;
 use crate::hunt::{keep_woken, next_hint, own_hint};
+use crate::implied::settle_implied;
 use crate::pace::Settlement;
 use crate::shared::Shared;
 use crate::workspace::{Job, Progress, Workspace};
@@ -129,8 +130,8 @@ fn settle_missed(
     is_wasted(settled)
 }
 
-/// Settles a job that was searched, and keeps what that wakes. A job that was not searched stays as it is. It answers
-/// whether the search was for nothing.
+/// Settles a job that was searched or passed over, and keeps what that wakes. Another job stays as it is. It answers whether a
+/// search was for nothing.
 #[inline]
 fn settle_job(
     shared: &mut Shared<'_>,
@@ -148,7 +149,7 @@ fn settle_job(
     requires pending { All (λ p. p < count) pending.old.items }
     requires count { length shared.old.chase.setup.task.pairs ≡ count }
     ensures settles { SettlesBy shared.old.chase job.new.view.pairs job.old.finding job.old.progress shared.new.chase job.new.progress }
-    ensures settled { ¬ (IsSearched job.new.progress) }
+    ensures settled { ¬ (IsThrough job.new.progress) }
     ensures setup { shared.new.chase.setup ≡ shared.old.chase.setup }
     ensures board { shared.new.scribe.board ≡ shared.old.scribe.board }
     ensures grows { (more : List Entry) × (shared.new.chase.book.journal ≡ shared.old.chase.book.journal ++ more) }
@@ -161,6 +162,10 @@ fn settle_job(
         Progress::Missed(ticket) => settle_missed(shared, board, job, ticket, spare, woken),
         Progress::Found(ticket) => {
             settle_found(shared, board, job, ticket, woken, pending, count)
+        }
+        Progress::Implied(ticket) => {
+            settle_implied(shared, job, ticket);
+            false
         }
         Progress::Taken(_) => false,
         Progress::Free => false,
@@ -184,7 +189,7 @@ fn settle_all(
     requires spare { shared.old.chase.setup.widest ≤ spare.old.room }
     requires pending { All (λ p. p < count) pending.old.items }
     requires count { length shared.old.chase.setup.task.pairs ≡ count }
-    ensures settled { (k : ℕ) (d : Job) → k < used → k < length jobs.old → ¬ (IsSearched (slice_index_or jobs.new k d).progress) }
+    ensures settled { (k : ℕ) (d : Job) → k < used → k < length jobs.old → ¬ (IsThrough (slice_index_or jobs.new k d).progress) }
     ensures setup { shared.new.chase.setup ≡ shared.old.chase.setup }
     ensures board { shared.new.scribe.board ≡ shared.old.scribe.board }
     ensures grows { (more : List Entry) × (shared.new.chase.book.journal ≡ shared.old.chase.book.journal ++ more) }
@@ -252,6 +257,7 @@ fn fill_job(shared: &mut Shared<'_>, board: &Board, job: &mut Job, hint: Option<
         Progress::Taken(_) => true,
         Progress::Missed(_) => true,
         Progress::Found(_) => true,
+        Progress::Implied(_) => true,
     }
 }
 

@@ -12,6 +12,7 @@
 //! - `threads`: workers in threads of their own, over any value
 //! - `worker`: what a worker does until it ends
 //! - `search`: searches by labels of the board
+//! - `implied`: pairs that need no search, since what was found joins their ends
 //! - `turns`: a turn of a worker
 //! - `batch`: what a worker does with the chase in a turn
 //! - `pace`: how a worker's turns go
@@ -38,6 +39,7 @@ mod gate;
 mod hint_rule;
 mod hints;
 mod hunt;
+mod implied;
 mod pace;
 mod run;
 mod search;

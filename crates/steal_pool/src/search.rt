@@ -11,6 +11,7 @@ ghost use Rattle.steal_pool.specs.Bases.{IsSince};
 ghost use Rattle.steal_pool.specs.Workspaces.{IsPlace};
 ghost use Rattle.steal_pool.specs.Batches.{ComesTo, IsJob, SearchesBy};
 
+use crate::implied::pass_over;
 use crate::workspace::{Job, Progress};
 use chase_core::{Outcome, Setup, Ticket, outcome_of};
 use label_board::{Board, Watcher};
@@ -55,7 +56,7 @@ fn search_view(setup: &Setup, job: &mut Job, ticket: Ticket)
 }
 
 /// Searches for the pair of a job that was taken, by labels of the board. Another job stays as it is.
-pub fn search_job(setup: &Setup, board: &Board, job: &mut Job)
+fn search_job(setup: &Setup, board: &Board, job: &mut Job)
     requires place { IsPlace setup.now.widest board.now job.old }
     requires names { board.now.names ≡ name_count setup.now.task }
     requires job { (seen : List Entry) × IsJob setup.now.task seen job.old }
@@ -70,7 +71,24 @@ pub fn search_job(setup: &Setup, board: &Board, job: &mut Job)
         }
         Progress::Missed(_) => {}
         Progress::Found(_) => {}
+        Progress::Implied(_) => {}
         Progress::Free => {}
+    }
+}
+
+/// Searches for the pair of a job that was taken, by labels of the board, or passes it over where it is implied by what was found.
+/// Another job stays as it is.
+pub fn search_unless(setup: &Setup, board: &Board, job: &mut Job, is_implied: bool)
+    requires place { IsPlace setup.now.widest board.now job.old }
+    requires names { board.now.names ≡ name_count setup.now.task }
+    requires job { (seen : List Entry) × IsJob setup.now.task seen job.old }
+    ensures place { IsPlace setup.now.widest board.now job.new }
+    ensures job { (seen : List Entry) → IsJob setup.now.task seen job.old → IsJob setup.now.task seen job.new }
+{
+    if is_implied {
+        pass_over(job);
+    } else {
+        search_job(setup, board, job);
     }
 }
 

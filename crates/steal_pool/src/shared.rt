@@ -1,12 +1,14 @@
 //! The chase with the scribe of its board, as a value with a journal.
 
-ghost use Rattle.std.specs.Prelude.{◌≡◌, ◌≤◌, ◌++◌, ◌<◌, ◌^◌, ℕ, List, All, IfSome, IsTrue, MatchOption, length};
+ghost use Rattle.std.specs.Prelude.{◌≡◌, ◌≤◌, ◌++◌, ◌<◌, ◌^◌, ◌↔◌, ℕ, List, All, IfSome, IsFalse, IsTrue, MatchOption, length};
 ghost use Rattle.chase_laws.specs.declared.entry.Entry.{Entry};
 ghost use Rattle.chase_laws.specs.Joined.{Joined};
 ghost use Rattle.chase_laws.specs.View.{same_by};
 ghost use Rattle.chase_laws.specs.Core.{Happens, IsPresent, ListsNear, PairAt, State};
 ghost use Rattle.chase_laws.specs.Core.Event.{Enter};
+ghost use Rattle.chase_core.specs.declared.ticket.Outcome.{Outcome};
 ghost use Rattle.chase_core.specs.declared.ticket.Outcome.TheVariants.{Found, Missed};
+ghost use Rattle.chase_core.specs.declared.ticket.Settled.TheVariants.{Already};
 ghost use Rattle.chase_core.specs.Running.{IsRunning, state_in};
 ghost use Rattle.chase_core.specs.Settling.{IsFoundBy, IsRightOutcome, Notes, Settles};
 ghost use Rattle.chase_core.specs.Taking.{TakesFirst, TakesHint, pair_of};
@@ -138,10 +140,25 @@ impl<'a> Shared<'a> {
         settled
     }
 
+    /// Settles a pair that was taken where its ends are joined by now, and answers whether they are. Where they are not, the chase
+    /// stays as it was. Nothing is entered, so nothing is posted.
+    pub(crate) fn settle_joined(&mut self, ticket: Ticket) -> bool
+        requires { PairAt self.old.chase.setup.task ticket.pair ticket.a ticket.b }
+        ensures settles { IsTrue result → (view : List (ℕ × ℕ)) (found : Outcome) → Settles self.old.chase ticket view found Already self.new.chase }
+        ensures joined { IsTrue result ↔ Joined self.old.chase.book.journal ticket.a ticket.b }
+        ensures unchanged { IsFalse result → self.new.chase ≡ self.old.chase }
+        ensures setup { self.new.chase.setup ≡ self.old.chase.setup }
+        ensures book { self.new.chase.book ≡ self.old.chase.book }
+        ensures scribe { self.new.scribe ≡ self.old.scribe }
+    {
+        self.chase.settle_joined(ticket)
+    }
+
     /// Settles a pair that was taken, of which a search found nothing with a view that the watcher filled since there were so
     /// many entries. Where there are no more entries, the watcher meets the scribe: the view has the present labels, and nothing is
-    /// compared. Else the view is what the board shows now, if that tells of no more that is the same. Nothing is entered, so nothing
-    /// is posted, and no finding is passed on: this is what becomes of nearly all pairs.
+    /// compared. Else its labels are compared with those of the book, and where one is not the present one, the view is what the
+    /// board shows now, if that tells of no more that is the same. Nothing is entered, so nothing is posted, and no finding is
+    /// passed on: this is what becomes of nearly all pairs.
     #[inline]
     pub(crate) fn settle_missed(
         &mut self,
@@ -173,6 +190,9 @@ impl<'a> Shared<'a> {
         let is_fresh = self.chase.book().journal().len() == since;
         if is_fresh {
             meet_scribe(board, watcher, &mut self.scribe);
+            return self.chase.settle_missed(ticket, view, woken);
+        }
+        if self.chase.is_present(ticket, view) {
             return self.chase.settle_missed(ticket, view, woken);
         }
         refresh(self.chase.setup(), board, &ticket, watcher, view, spare);
