@@ -60,9 +60,9 @@ fn chase_and_settle<G: Gate, R: Threads + Wait + Sync>(
 /// Runs a chase to its end, with a crew of as many workers as there is memory for: at most so many, 1 to 64, and no more
 /// than there are pairs, but at least one. The labels are equal exactly where two names are the same, and the journal is a
 /// lean derivation that no step goes beyond, over the pairs of the setup; it begins with that of the chase. Each worker
-/// passes the gate before each search, and so does each of as many threads that look, where many pairs stand in long runs with
-/// one first name, for those that nothing can match, before the crew begins. Only want of memory stops it, before any other
-/// search. Whatever could be identified next when it began is joined when it ends.
+/// passes the gate before each search, and so does each of as many threads that look for those that nothing can match, before
+/// the crew begins, where more than a quarter of 4,096 pairs or more stand behind 16 others with the same first name. Only want
+/// of memory stops it, before any other search. Whatever could be identified next when it began is joined when it ends.
 pub fn chase_on<R: Threads + Wait + Sync, G: Gate>(
     rt: &R,
     alloc: Global,

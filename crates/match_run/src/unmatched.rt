@@ -25,16 +25,16 @@ const STRETCH: u32 = 256;
 /// Where more than one in so many pairs may match, it is not worth while to look at the others.
 const MANY: u32 = 8;
 
-/// More pairs than these that stand together and have one first name are a long run.
-const LONG: usize = 16;
+/// A pair that stands behind so many others with its first name is one of a crowd.
+const CROWD: usize = 16;
 
-/// Whether more than a quarter of the pairs stand in long runs, as those of crowded names do. With other pairs looks save less than
-/// they cost: first one thread has to find out what may be the same at all.
+/// Whether more than a quarter of the pairs stand behind `CROWD` others with the same first name. With other pairs looks save less
+/// than they cost: first one thread has to find out what may be the same at all.
 fn are_crowded(pairs: &[(u32, u32)]) -> bool {
     let mut crowded: usize = 0;
-    for place in LONG..pairs.len() {
-        let is_in_run = pairs[place].0 == pairs[place - LONG].0;
-        crowded = crowded.saturating_add(usize::from(is_in_run));
+    for place in CROWD..pairs.len() {
+        let is_behind = pairs[place].0 == pairs[place - CROWD].0;
+        crowded = crowded.saturating_add(usize::from(is_behind));
     }
     crowded > pairs.len() / 4
 }
@@ -155,7 +155,7 @@ fn take_each(chase: &mut Chase<'_>, pairs: &[u32])
 }
 
 /// Looks for Ready pairs that no key can match, whatever pairs are identified, by so many threads, and takes them. None where
-/// there are few pairs or few of them in long runs, or no memory for it: then all stay as they were.
+/// there are few pairs or few of them crowded, or no memory for it: then all stay as they were.
 pub(crate) fn take_unmatched<R: Threads + Sync, G: Gate>(
     rt: &R,
     alloc: Global,
