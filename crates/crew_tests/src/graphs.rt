@@ -1,5 +1,5 @@
 //! Graphs of names of type 1: so many pairs, of which both names have one literal under 2 that no other has, or a crowd of names
-//! that all have one.
+//! that all have one, or threes of names that are the same.
 
 use crate::ENOUGH;
 use chase_laws::Slot;
@@ -19,6 +19,8 @@ pub enum Kind {
     /// A crowd of so many names, of which each leads to one of its own under 3. The first two of these are found to be the same
     /// by a literal under 4, and so the first two of the crowd are.
     Crowd,
+    /// So many threes of names, of which all have one literal under 4 that no other has. So each of their pairs is found.
+    Threes,
 }
 
 // One literal under 4, or one under 2 and what is the same under 3.
@@ -108,12 +110,35 @@ fn crowd_of(alloc: Global, count: u32) -> Result<Table, AllocError> {
     })
 }
 
+/// So many threes of names, each with its literal after them.
+fn threes_of(alloc: Global, count: u32) -> Result<Table, AllocError> {
+    let mut rows = Vec::new(alloc);
+    let mut literals = Vec::new(alloc);
+    let mut names = 5u32;
+    for i in 0..count {
+        let literal = names.wrapping_add(3);
+        for k in 0..3u32 {
+            let name = names.wrapping_add(k);
+            rows.push([name, 0, 1])?;
+            rows.push([name, 4, literal])?;
+        }
+        literals.push(literal)?;
+        names = names.wrapping_add(4);
+    }
+    Ok(Table {
+        rows,
+        literals,
+        names,
+    })
+}
+
 /// The rows of this kind.
 fn table_of(alloc: Global, kind: Kind, count: u32) -> Result<Table, AllocError> {
     match kind {
         Kind::Alone => pairs_of(alloc, false, count),
         Kind::Chain => pairs_of(alloc, true, count),
         Kind::Crowd => crowd_of(alloc, count),
+        Kind::Threes => threes_of(alloc, count),
     }
 }
 
