@@ -195,11 +195,11 @@ fn what_nothing_can_match_is_searched_once(rt: HostRuntime) {
 
 #[test]
 fn what_is_implied_is_mostly_not_searched(rt: HostRuntime) {
-    let prepared = prepared(&rt, rt.alloc(), Kind::Threes, 2000);
+    let prepared = prepared(&rt, rt.alloc(), Kind::Threes, 1000);
     for workers in [1, 4] {
         let gate = Counts::new(rt.alloc(), 6000).expect(&rt, ENOUGH);
         let whole = run(&rt, rt.alloc(), &prepared.setup, workers, &gate);
-        assert_eq!(&rt; whole.journal.len(), 4000);
-        assert!(&rt; passed(&gate, 0) > 1000);
+        assert_eq!(&rt; whole.journal.len(), 5000);
+        assert!(&rt; passed(&gate, 0) > 500);
     }
 }

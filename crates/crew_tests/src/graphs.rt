@@ -19,7 +19,8 @@ pub enum Kind {
     /// A crowd of so many names, of which each leads to one of its own under 3. The first two of these are found to be the same
     /// by a literal under 4, and so the first two of the crowd are.
     Crowd,
-    /// So many threes of names, of which all have one literal under 4 that no other has. So each of their pairs is found.
+    /// So many threes of names with one literal under 4 that no other has, and behind each three pairs with one of their own. So
+    /// each pair is found, and two of the three of three names imply the third one.
     Threes,
 }
 
@@ -110,20 +111,21 @@ fn crowd_of(alloc: Global, count: u32) -> Result<Table, AllocError> {
     })
 }
 
-/// So many threes of names, each with its literal after them.
+/// So many threes of names, each with its literal after it, and three pairs behind each.
 fn threes_of(alloc: Global, count: u32) -> Result<Table, AllocError> {
     let mut rows = Vec::new(alloc);
     let mut literals = Vec::new(alloc);
     let mut names = 5u32;
     for i in 0..count {
-        let literal = names.wrapping_add(3);
-        for k in 0..3u32 {
-            let name = names.wrapping_add(k);
-            rows.push([name, 0, 1])?;
-            rows.push([name, 4, literal])?;
+        for members in [3u32, 2, 2, 2] {
+            let literal = names.wrapping_add(members);
+            for name in names..literal {
+                rows.push([name, 0, 1])?;
+                rows.push([name, 4, literal])?;
+            }
+            literals.push(literal)?;
+            names = literal.wrapping_add(1);
         }
-        literals.push(literal)?;
-        names = names.wrapping_add(4);
     }
     Ok(Table {
         rows,
