@@ -1,6 +1,6 @@
 -- The event that each answer stands for.
-use Rattle.std.proofs.Common.{List, [], ◌∷◌, ℕ, suc, Option, Some, None, false, All, slice_get, slice_index, slice_set, get_or, length, ◌≡◌, ◌≢◌, ◌<◌, ◌⊎◌, ◌↔◌, inl, inr, ◌==◌, refl, sym, ◌∙◌, ap, subst, arith, eqb-true, eq-eqb, ne_eqb, ap₂, zero}
-use Rattle.std.specs.Option.{is_some, IfNone}
+use Rattle.std.proofs.Common.{List, [], ◌∷◌, ℕ, suc, Option, Some, None, Bool, true, false, not, All, slice_get, slice_index, slice_set, get_or, length, ◌≡◌, ◌≢◌, ◌<◌, ◌⊎◌, ◌↔◌, inl, inr, ◌==◌, refl, sym, ◌∙◌, ap, subst, arith, eqb-true, eq-eqb, ne_eqb, ap₂, zero}
+use Rattle.std.specs.Option.{is_some, IfNone, IfSome}
 use Rattle.std.proofs.lemmas.Bool.{cases_Bool, cond-true, cond-false, both_ways}
 use Rattle.std.proofs.lemmas.Option.{slice_get_within, slice_get-get_or, get_or_from_slice_get, same_Some}
 use Rattle.chase_laws.specs.declared.pair_state.PairState.{PairState}
@@ -20,7 +20,7 @@ use Rattle.chase_core.specs.declared.ticket.Settled.TheVariants as settled
 use Rattle.chase_core.specs.Setup.{Preparation}
 use Rattle.chase_core.specs.Table.{Standings}
 use Rattle.chase_core.specs.Running.{Running, state_of, state_in, running_with}
-use Rattle.chase_core.specs.Settling.{Settles, Notes}
+use Rattle.chase_core.specs.Settling.{Settles, Notes, IsFirstOvertaken}
 use Rattle.chase_core.specs.Inner.{SettlesMissed}
 use Rattle.chase_core.proofs.Taken.{joined_apart}
 
@@ -136,3 +136,10 @@ pub all_present : (first : Option (ℕ × ℕ × ℕ)) (labels : List ℕ) (view
     (n l : ℕ) → label_in view n ≡ Some l → l ≡ slice_index labels n
 all_present (Some f) labels view e each n l at = absurd (cc)
 all_present None labels view e each n l at = let r = label_at view n l at in each r.0 n l r.1
+
+-- where a view's names ascend and each label is the present one, none was found that is not
+pub none_overtaken : (first : Option (ℕ × ℕ × ℕ)) (told : Bool) (labels : List ℕ) (view : List (ℕ × ℕ)) → Ascends view → is_some first ≡ not told → IfSome first (λ r. IsFirstOvertaken labels view r.0 r.1 r.2) →
+    ((n l : ℕ) → label_in view n ≡ Some l → l ≡ slice_index labels n) → told ≡ true
+none_overtaken None true labels view up e found each = refl
+none_overtaken None false labels view up e found each = absurd (cc)
+none_overtaken (Some f) told labels view up e found each = absurd (found.differs (each f.0 f.1 (label_of view found.place f.0 f.1 up found.stands) ∙ sym found.present))

@@ -203,7 +203,7 @@ impl<'a> Chase<'a> {
     /// Whether a view of what is near to a pair's ends has the present labels.
     pub fn is_present(&self, ticket: Ticket, view: &View) -> bool
         requires { ListsNear self.now.setup.task ticket.a ticket.b view.now.pairs }
-        ensures { IsTrue result → IsPresent (state_in self.now) view.now.pairs }
+        ensures { IsTrue result ↔ IsPresent (state_in self.now) view.now.pairs }
     {
         is_present(self.setup, &self.book, ticket, view)
     }

@@ -53,7 +53,7 @@ fn overtaken(setup: &Setup, book: &Book, ticket: Ticket, view: &View) -> Option<
 pub fn is_present(setup: &Setup, book: &Book, ticket: Ticket, view: &View) -> bool
     requires labels { length book.now.labels ≡ name_count setup.now.task }
     requires view { ListsNear setup.now.task ticket.a ticket.b view.now.pairs }
-    ensures { IsTrue result → (n l : ℕ) → label_in view.now.pairs n ≡ Some l → l ≡ slice_index book.now.labels n }
+    ensures { IsTrue result ↔ ((n l : ℕ) → label_in view.now.pairs n ≡ Some l → l ≡ slice_index book.now.labels n) }
 {
     overtaken(setup, book, ticket, view).is_none()
 }

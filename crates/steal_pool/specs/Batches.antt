@@ -82,6 +82,14 @@ SearchesBy T view finding (progress.Missed t) after = after ≡ progress.Missed 
 SearchesBy T view finding (progress.Found t) after = after ≡ progress.Found t
 SearchesBy T view finding (progress.Implied t) after = after ≡ progress.Implied t
 
+-- what was taken is passed over, and nothing else changes
+abbrev pub PassesOver : Progress → Progress → Type 0
+PassesOver progress.Free after = after ≡ progress.Free
+PassesOver (progress.Taken t) after = after ≡ progress.Implied t
+PassesOver (progress.Missed t) after = after ≡ progress.Missed t
+PassesOver (progress.Found t) after = after ≡ progress.Found t
+PassesOver (progress.Implied t) after = after ≡ progress.Implied t
+
 -- a worker that may go on, and whose jobs are good since its last turn
 pub record IsAtWork (lock : TurnLock Shared Base Entry) (on : SeenBoard) (thieves : List Thief) (m : CrewMember Shared Base Entry) : Type 0 where
   pub member : IsCrewMember pair_count widest_of board_of lock on thieves m

@@ -7,7 +7,7 @@ ghost use Rattle.label_board.specs.Seen.{SeenBoard};
 ghost use Rattle.steal_pool.specs.declared.workspace.Progress.TheVariants.{Implied};
 ghost use Rattle.steal_pool.specs.Bases.{IsSince};
 ghost use Rattle.steal_pool.specs.Workspaces.{IsPlace};
-ghost use Rattle.steal_pool.specs.Batches.{IsJob, IsThrough, SettlesBy};
+ghost use Rattle.steal_pool.specs.Batches.{IsJob, IsThrough, SettlesBy, PassesOver};
 
 use crate::shared::Shared;
 use crate::workspace::{Job, Progress};
@@ -82,9 +82,14 @@ impl FoundPairs {
 pub fn pass_over(job: &mut Job)
     ensures place { (widest : ℕ) → (on : SeenBoard) → IsPlace widest on job.old → IsPlace widest on job.new }
     ensures job { (T : Task) → (seen : List Entry) → IsJob T seen job.old → IsJob T seen job.new }
+    ensures passes { PassesOver job.old.progress job.new.progress }
 {
-    if let Progress::Taken(ticket) = job.progress {
-        job.progress = Progress::Implied(ticket);
+    match job.progress {
+        Progress::Taken(ticket) => job.progress = Progress::Implied(ticket),
+        Progress::Missed(_) => {}
+        Progress::Found(_) => {}
+        Progress::Implied(_) => {}
+        Progress::Free => {}
     }
 }
 

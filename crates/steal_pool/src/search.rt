@@ -9,7 +9,7 @@ ghost use Rattle.chase_core.specs.Settling.{IsFoundBy};
 ghost use Rattle.label_board.specs.Seen.{SeenBoard};
 ghost use Rattle.steal_pool.specs.Bases.{IsSince};
 ghost use Rattle.steal_pool.specs.Workspaces.{IsPlace};
-ghost use Rattle.steal_pool.specs.Batches.{ComesTo, IsJob, SearchesBy};
+ghost use Rattle.steal_pool.specs.Batches.{ComesTo, IsJob, PassesOver, SearchesBy};
 
 use crate::implied::pass_over;
 use crate::workspace::{Job, Progress};
@@ -82,6 +82,8 @@ pub fn search_unless(setup: &Setup, board: &Board, job: &mut Job, is_implied: bo
     requires place { IsPlace setup.now.widest board.now job.old }
     requires names { board.now.names ≡ name_count setup.now.task }
     requires job { (seen : List Entry) × IsJob setup.now.task seen job.old }
+    ensures searches { IsFalse is_implied → SearchesBy setup.now.task job.new.view.pairs job.new.finding job.old.progress job.new.progress }
+    ensures passes { IsTrue is_implied → PassesOver job.old.progress job.new.progress }
     ensures place { IsPlace setup.now.widest board.now job.new }
     ensures job { (seen : List Entry) → IsJob setup.now.task seen job.old → IsJob setup.now.task seen job.new }
 {
