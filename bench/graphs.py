@@ -341,6 +341,7 @@ KINDS = {
     "chain": (chain, CHAIN_KEYS),
     "linked": (linked, LINKED_KEYS),
     "wide": (wide, WIDE_KEYS),
+    "mixed": (mixed, NO_KEY),
 }
 
 
