@@ -21,8 +21,8 @@ from building import build
 from graphs import written
 from timing import planned, print_load
 
-NEEDS = ["match_run", "steal_pool", "chase_core", "chase_laws", "typed_graph", "term_text", "term_table", "graph_rows", "key_lang", "gk_io",
-         "gk_base", "anyhow"]
+NEEDS = ["match_run", "steal_pool", "chase_core", "chase_laws", "typed_graph", "term_text", "term_table", "graph_rows", "key_lang",
+         "gk_io", "gk_base", "anyhow"]
 PROCESSORS = {1: "0", 2: "0,1", 4: "0-3"}  # by the number of workers
 PLAN = [(kind, size) for size in (10 ** 6, 4 * 10 ** 6) for kind in ("mixed", "catalogue", "bibliography")]
 PLAN += [("chain", 10 ** 6 // 6), ("chain", 4 * 10 ** 6 // 6)]
