@@ -1,5 +1,5 @@
 //! Reading and numbering at once: while the triples of one batch of pieces are numbered in a second thread, the pieces of the
-//! next are read and judged in the caller's.
+//! next are read and judged in the caller's. Where more threads may be used, they help the second one to look the terms up.
 
 ghost use Rattle.std.specs.Prelude.{◌≡◌, ◌+◌, ◌*◌, ◌<◌, ◌≤◌, ◌^◌, ◌++◌, [], List, length, vec_len, IsOk, OnOk};
 ghost use Rattle.gk_base.specs.declared.term.Triple.{Triple as AnyTriple};
@@ -9,7 +9,7 @@ ghost use Rattle.graph_rows.specs.Feeding.{FeedsBatch, FeedsAll};
 
 use crate::pieces::feed_next;
 use crate::rows::Rows;
-use gk_base::ReadRefusal;
+use gk_base::{NoMemory, ReadRefusal};
 use gk_io::{FileStop, Shelf};
 use nt_reader::Reader;
 use std::thread::{Threads, join_mut};
@@ -53,8 +53,9 @@ fn feed_batch<S: Shelf>(
 
 /// Numbers these triples, behind those that came before, while the next batch is read and fed. It leaves the list empty, and
 /// answers whether the file is at its end. What stops the reading is the answer, whatever became of the numbering.
-fn number_and_feed<S: Shelf, R: Threads>(
+fn number_and_feed<S: Shelf, R: Threads + Sync>(
     rt: &R,
+    threads: u32,
     shelf: &mut S,
     buf: &mut Vec<u8>,
     reader: &mut Reader,
@@ -75,9 +76,12 @@ fn number_and_feed<S: Shelf, R: Threads>(
     ensures empty { OnOk result (triples.new ≡ []) }
     ensures stand { OnOk result ((before : List AnyTriple) → StandFor rows.old before → StandFor rows.new (before ++ triples.old)) }
 {
+    let theirs = threads.saturating_sub(1);
     let (numbered, fed) = join_mut(
         rt,
-        &mut || rows.add(triples),
+        &mut || -> Result<(), NoMemory>
+            requires { length rows.now.names + 3 * length triples.now < 2 ^ 32 }
+        { rows.add(rt, theirs, triples) },
         &mut || feed_batch(shelf, buf, reader, size),
     );
     let at_end = fed?;
@@ -87,8 +91,9 @@ fn number_and_feed<S: Shelf, R: Threads>(
 
 /// Reads on to the end of the file. The triples that a batch ends are numbered, behind those that are there, while the next
 /// batch is read. So each lies in one of two lists, that of the reader or this one, which change places between two batches.
-pub(crate) fn feed_in_batches<S: Shelf, R: Threads>(
+pub(crate) fn feed_in_batches<S: Shelf, R: Threads + Sync>(
     rt: &R,
+    threads: u32,
     shelf: &mut S,
     buf: &mut Vec<u8>,
     reader: &mut Reader,
@@ -111,10 +116,10 @@ pub(crate) fn feed_in_batches<S: Shelf, R: Threads>(
     'batches: loop {
         reader.take_triples(triples);
         if at_end {
-            rows.add(triples)?;
+            rows.add(rt, threads, triples)?;
             return Ok(());
         }
         size = LARGEST.min(size * 2);
-        at_end = number_and_feed(rt, shelf, buf, reader, triples, rows, size)?;
+        at_end = number_and_feed(rt, threads, shelf, buf, reader, triples, rows, size)?;
     }
 }

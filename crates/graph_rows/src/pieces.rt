@@ -44,7 +44,8 @@ pub struct MoreRows {
 
 /// Reads on to the end of the file. Each piece is fed, and the triples that it ends are numbered behind those that are there,
 /// before the next is read. They pass through the one list of triples.
-fn feed_all<S: Shelf>(
+fn feed_all<S: Shelf, R: Threads + Sync>(
+    rt: &R,
     shelf: &mut S,
     buf: &mut [u8],
     reader: &mut Reader,
@@ -64,7 +65,7 @@ fn feed_all<S: Shelf>(
     'pieces: loop {
         let count = feed_next(shelf, buf, reader)?;
         reader.take_triples(triples);
-        rows.add(triples)?;
+        rows.add(rt, 1, triples)?;
         if count == 0 {
             return Ok(());
         }
@@ -73,7 +74,7 @@ fn feed_all<S: Shelf>(
 
 /// Reads on to the end of the file, and numbers the triples behind those that are there: beside each other where two threads
 /// may be used, and else by turns.
-fn feed_file<S: Shelf, R: Threads>(
+fn feed_file<S: Shelf, R: Threads + Sync>(
     rt: &R,
     threads: u32,
     shelf: &mut S,
@@ -94,14 +95,14 @@ fn feed_file<S: Shelf, R: Threads>(
     ensures feeds { FeedsAll S.Shelf shelf.old shelf.new reader.old.limits reader.new (GoOn rows.old rows.new) result }
 {
     if threads > 1 {
-        feed_in_batches(rt, shelf, buf, reader, triples, rows)
+        feed_in_batches(rt, threads, shelf, buf, reader, triples, rows)
     } else {
-        feed_all(shelf, buf, reader, triples, rows)
+        feed_all(rt, shelf, buf, reader, triples, rows)
     }
 }
 
 /// Finds the file of this name, reads it to its end, and numbers its triples behind those that are there.
-fn read_behind<S: Shelf, R: Threads>(
+fn read_behind<S: Shelf, R: Threads + Sync>(
     rt: &R,
     alloc: Global,
     threads: u32,
@@ -130,21 +131,21 @@ fn read_behind<S: Shelf, R: Threads>(
         rows,
     )?;
     let mut last = reader.finish().map_err(file_stop)?;
-    rows.add(&mut last)?;
+    rows.add(rt, 1, &mut last)?;
     Ok(())
 }
 
 /// The rows and names of the graph of this name. The file is read piece by piece, and no further once it is refused: of the
 /// limits, those of bytes and of triples count.
 ///
-/// `threads` says how many threads may be used, the caller's among them. With 2 or more, a second one numbers the triples of
-/// some pieces while the caller's reads and judges the next ones; with fewer, all is done on the caller's. The answer, and how
+/// `threads` says how many threads may be used, the caller's among them. With 2 or more, the others look up and number the
+/// triples of some pieces while the caller's reads and judges the next ones; with fewer, all is done on the caller's. The answer, and how
 /// far the file is read where it is refused, are the same.
 ///
 /// - `NoMemory` may come at any time, and says nothing of the file.
 /// - `FileFault::Failed`: the shelf could not find the file, or could not read it to its end.
 /// - `FileFault::Refused`: the first line that is faulty or beyond a limit, and why.
-pub fn read_rows<S: Shelf, R: Threads>(
+pub fn read_rows<S: Shelf, R: Threads + Sync>(
     rt: &R,
     alloc: Global,
     threads: u32,
@@ -167,7 +168,7 @@ pub fn read_rows<S: Shelf, R: Threads>(
 /// that are there they may be no more than a graph may have.
 ///
 /// What stops it is what stops `read_rows`, and the rows that were there are gone then.
-pub fn read_more_rows<S: Shelf, R: Threads>(
+pub fn read_more_rows<S: Shelf, R: Threads + Sync>(
     rt: &R,
     alloc: Global,
     threads: u32,

@@ -7,6 +7,7 @@ ghost use Rattle.graph_rows.specs.Threes.{in_threes};
 
 use gk_base::NoMemory;
 use std::alloc::Global;
+use std::thread::Threads;
 use term_list::Triples;
 use term_table::Names;
 
@@ -62,13 +63,21 @@ impl Rows {
             .expect((bytes / BYTES_A_NAME).min(MOST_EXPECTED) as u32);
     }
 
-    /// Numbers these triples, behind those that came before. It leaves the list empty.
-    pub(crate) fn add(&mut self, triples: &mut Triples) -> Result<(), NoMemory>
+    /// Numbers these triples, behind those that came before. It leaves the list empty. `threads` says how many threads may look
+    /// their terms up, the caller's among them; the numbers are the same.
+    pub(crate) fn add<R: Threads + Sync>(
+        &mut self,
+        rt: &R,
+        threads: u32,
+        triples: &mut Triples,
+    ) -> Result<(), NoMemory>
         requires { length self.old.names + 3 * length triples.old < 2 ^ 32 }
         ensures empty { OnOk result (triples.new ≡ []) }
         ensures stand { OnOk result ((before : List AnyTriple) → StandFor self.old before → StandFor self.new (before ++ triples.old)) }
     {
-        let numbers = self.names.intern_all(triples.terms())?;
+        let numbers = self
+            .names
+            .intern_all_in_threads(rt, threads, triples.terms())?;
         push_rows(&mut self.rows, &numbers)?;
         triples.clear();
         Ok(())

@@ -1,12 +1,8 @@
 -- Terms of a list that came before in it (this project's own).
-use Rattle.std.specs.Prelude.{◌≡◌, ℕ, ◌+◌, ◌≤◌, List, slice_get, Some}
+use Rattle.std.specs.Prelude.{◌≡◌, ℕ, ◌≤◌, List, slice_get}
 use Rattle.gk_base.specs.declared.term.Term.{Term}
 
 -- the term at the first place is that at the other one, and does not stand behind it
 pub record IsFirst (terms : List Term) (at first : ℕ) : Type 0 where
   pub not_behind : first ≤ at
   pub same : slice_get terms first ≡ slice_get terms at
-
--- these are such places for the terms from one place on
-pub record AreFirsts (terms : List Term) (start : ℕ) (firsts : List ℕ) : Type 0 where
-  pub each : (k first : ℕ) → slice_get firsts k ≡ Some first → IsFirst terms (start + k) first

@@ -2,13 +2,15 @@
 //!
 //! A look-up in a table that is larger than the processor's caches waits for memory at each of its steps: the set's group, the
 //! mark, the term's places, its text. Where many look-ups take the same step one after another, they wait at the same time.
-//! What is found so is a place to try first, and no more: it need not be right, so no clause says more of it than its type.
-//! Terms that came a little before in the list are not looked up at all, and of them a clause says which term they are.
+//! What the steps find is a place to try, which need not be right; a comparison at the end decides whether the term is the name
+//! that stands there. Terms that came a little before in the list are not looked up at all.
 
-ghost use Rattle.std.specs.Prelude.{◌≡◌, ◌<◌, ◌≤◌, ◌-◌, ◌^◌, length, OnOk};
-ghost use Rattle.term_table.specs.Firsts.{AreFirsts};
+ghost use Rattle.std.specs.Prelude.{◌≡◌, ◌<◌, ◌≤◌, ◌+◌, ◌-◌, ◌^◌, List, length, OnOk};
+ghost use Rattle.gk_base.specs.declared.term.Term.{Term as AnyTerm};
+ghost use Rattle.term_table.specs.Known.{AreKnown};
 
 use crate::hashing::TermHasher;
+use crate::known::Known;
 use crate::marks::{Marks, NO_PLACE};
 use crate::recent::Recent;
 use gk_base::NoMemory;
@@ -28,12 +30,10 @@ struct LookUp {
     found: u32,
 }
 
-/// What is known of a group of terms of a list before they are numbered.
+/// Looks ahead at the terms of a list, a group after another.
 #[derive(Drop)]
 pub(crate) struct Ahead {
     recent: Recent,
-    /// For each term of the group its own place, or that of a term before it that is the same.
-    pub(crate) firsts: Vec<u32>,
     look_ups: Vec<LookUp>,
 }
 
@@ -70,37 +70,38 @@ fn keep_like<F: Fn(&[u8], &[u8]) -> bool>(
 }
 
 impl Ahead {
-    /// Nothing is known of any term.
+    /// No term has been looked at.
     pub(crate) fn new(alloc: Global) -> Ahead {
         Ahead {
             recent: Recent::new(),
-            firsts: Vec::new(alloc),
             look_ups: Vec::new(alloc),
         }
     }
 
-    // Finds which terms came before. Those that did not are to be looked up by their hashes.
+    // Finds which of the next terms came before. Those that did not are to be looked up by their hashes.
     fn look_back(
         &mut self,
         hasher: TermHasher,
         terms: &Terms,
         start: usize,
         end: usize,
+        known: &mut Vec<Known>,
     ) -> Result<(), NoMemory>
-        requires ordered { start ≤ end }
+        requires ordered { start + length known.old.items ≤ end }
         requires within { end ≤ length terms.now }
         requires few { length terms.now < 2 ^ 32 }
-        ensures firsts { OnOk result (AreFirsts terms.now start self.new.firsts.items) }
-        ensures one_each { OnOk result (length self.new.firsts.items ≡ end - start) }
+        ensures known { OnOk result ((names : List AnyTerm) → AreKnown names terms.now start known.old.items → AreKnown names terms.now start known.new.items) }
+        ensures one_each { OnOk result (length known.new.items ≡ end - start) }
     {
-        self.firsts.clear();
         self.look_ups.clear();
-        for at in start..end {
+        for at in start + known.len()..end {
             let first = self.recent.first(terms, at);
-            self.firsts.push(first)?;
-            if first as usize == at {
+            if (first as usize) < at {
+                known.push(Known::Before(first))?;
+            } else {
+                known.push(Known::Unknown)?;
                 self.look_ups.push(LookUp {
-                    at: first,
+                    at: at as u32,
                     found: hasher.hash_of(&terms.get(at)),
                 })?;
             }
@@ -108,7 +109,27 @@ impl Ahead {
         Ok(())
     }
 
-    /// Looks ahead at the terms of a list from one place to another.
+    // Notes which of the terms are the names that stand where their look-ups ended.
+    fn note_same(&self, names: &Terms, terms: &Terms, start: usize, known: &mut [Known])
+        requires { AreKnown names.now terms.now start known.old }
+        ensures known { AreKnown names.now terms.now start known.new }
+        ensures one_each { length known.new ≡ length known.old }
+    {
+        for look_up in &self.look_ups {
+            let (found, at) = (look_up.found as usize, look_up.at as usize);
+            if start <= at
+                && at - start < known.len()
+                && at < terms.len()
+                && found < names.len()
+                && names.get(found).is_same(&terms.get(at))
+            {
+                known[at - start] = Known::Named(look_up.found);
+            }
+        }
+    }
+
+    /// Looks at the next terms of a list, up to one place. `known` says what is known of those from `start` on that were looked
+    /// at before, and gets what is known of the others behind it. The table is asked for them as one group.
     pub(crate) fn look(
         &mut self,
         marks: &Marks,
@@ -116,28 +137,22 @@ impl Ahead {
         terms: &Terms,
         start: usize,
         end: usize,
+        known: &mut Vec<Known>,
     ) -> Result<(), NoMemory>
-        requires ordered { start ≤ end }
+        requires ordered { start + length known.old.items ≤ end }
         requires within { end ≤ length terms.now }
         requires few { length terms.now < 2 ^ 32 }
-        ensures firsts { OnOk result (AreFirsts terms.now start self.new.firsts.items) }
-        ensures one_each { OnOk result (length self.new.firsts.items ≡ end - start) }
+        requires known { AreKnown names.now terms.now start known.old.items }
+        ensures known { OnOk result (AreKnown names.now terms.now start known.new.items) }
+        ensures one_each { OnOk result (length known.new.items ≡ end - start) }
     {
-        self.look_back(marks.hasher(), terms, start, end)?;
+        self.look_back(marks.hasher(), terms, start, end, known)?;
         for look_up in &mut self.look_ups {
             look_up.found = marks.place_with(look_up.found);
         }
         keep_like(names, terms, &mut self.look_ups, are_as_long);
         keep_like(names, terms, &mut self.look_ups, end_alike);
+        self.note_same(names, terms, start, known);
         Ok(())
-    }
-
-    /// The place where the name may stand that this look-up of the group, counted from 0, looks for, or no place.
-    #[inline]
-    pub(crate) fn likely(&self, count: usize) -> u32 {
-        match self.look_ups.get(count) {
-            Some(look_up) => look_up.found,
-            None => NO_PLACE,
-        }
     }
 }

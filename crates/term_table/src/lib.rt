@@ -7,6 +7,8 @@
 //! - `marks`: from a term to its place
 //! - `hashing`: the hashes of terms, begun with a seed
 //! - `ahead`: look-ups of many terms that go step by step together
+//! - `looking`: the same by several threads
+//! - `known`: what they tell of a term
 //! - `recent`: which terms of a list came before in it
 //! - `folding`: which literals are the same but for case
 #![tactic(auto)]
@@ -14,6 +16,8 @@
 mod ahead;
 mod folding;
 mod hashing;
+mod known;
+mod looking;
 mod marks;
 mod names;
 mod recent;

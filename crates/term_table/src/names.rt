@@ -1,16 +1,20 @@
 //! The table of the names.
 
-ghost use Rattle.std.specs.Prelude.{◌≡◌, ℕ, ◌+◌, ◌-◌, ◌^◌, ◌<◌, ◌≤◌, ◌↔◌, [], length, map, slice_get, slice_index, Some, IsSome, IsNone, IfSome, IfOk, OnOk, OnErr, Contains};
+ghost use Rattle.std.specs.Prelude.{◌≡◌, ℕ, ◌+◌, ◌-◌, ◌^◌, ◌<◌, ◌≤◌, ◌↔◌, [], length, map, drop, slice_get, slice_index, Some, IsSome, IsNone, IfSome, IfOk, OnOk, OnErr, Contains};
 ghost use Rattle.term_table.specs.Folding.{FoldsOf, folds_of, IsLiteralAt};
+ghost use Rattle.term_table.specs.Known.{AreKnown, AreNumbersOf, HasNumbered};
 ghost use Rattle.term_table.specs.Numbering.{with_term, with_terms, place_of, AreDistinct, HasTakenSome};
 
 use crate::ahead::{Ahead, GROUP};
 use crate::folding::folds;
 use crate::hashing::TermHasher;
+use crate::known::Known;
+use crate::looking::{FEW, look_in_threads};
 use crate::marks::Marks;
 use gk_base::{NoMemory, Term};
 use std::alloc::Global;
 use std::marker::Model;
+use std::thread::Threads;
 use term_list::{TermRef, Terms};
 
 /// The names of a graph: its distinct terms, each stored once, packed as `Terms` are, with texts of 2^32 - 1 bytes in all
@@ -117,20 +121,32 @@ impl Names {
         }
     }
 
-    // The number of this term. It is looked for at one place first.
-    #[inline]
-    fn intern_likely(&mut self, likely: u32, term: &TermRef<'_>) -> Result<u32, NoMemory>
-        requires { length self.old < 2 ^ 32 - 1 }
-        ensures place { IfOk result (λ place. slice_get self.new place ≡ Some term.now) }
-        ensures ok { OnOk result (self.new ≡ with_term self.old term.now) }
-        ensures err { OnErr result (self.new ≡ self.old) }
+    // Numbers the next terms of a list, of which this is known. `numbers` has the numbers of those before them, and gets theirs.
+    fn number_known(
+        &mut self,
+        terms: &Terms,
+        known: &[Known],
+        numbers: &mut Vec<u32>,
+    ) -> Result<(), NoMemory>
+        requires within { length numbers.old.items + length known.now ≤ length terms.now }
+        requires room { length self.old + length known.now < 2 ^ 32 }
+        requires numbered { AreNumbersOf self.old terms.now numbers.old.items }
+        requires known { AreKnown self.old terms.now (length numbers.old.items) known.now }
+        ensures ok { OnOk result (HasNumbered self.old terms.now (length numbers.old.items) self.new numbers.new.items (length known.now)) }
+        ensures err { OnErr result (HasTakenSome self.old (drop (length numbers.old.items) terms.now) self.new) }
         ensures distinct { AreDistinct self.new }
     {
-        let at = likely as usize;
-        if at < self.terms.len() && self.terms.get(at).is_same(term) {
-            return Ok(likely);
+        // A fact for the proof: the names are all different.
+        let _ = self.len();
+        for k in 0..known.len() {
+            let number = match known[k] {
+                Known::Before(first) => numbers[first as usize],
+                Known::Named(number) => number,
+                Known::Unknown => self.intern_lent(&terms.get(numbers.len()))?,
+            };
+            numbers.push(number)?;
         }
-        self.intern_lent(term)
+        Ok(())
     }
 
     /// The numbers of these terms, in their order. Those that are no names yet become names one after another, as by
@@ -146,25 +162,50 @@ impl Names {
     {
         let alloc = self.alloc;
         let mut ahead = Ahead::new(alloc);
+        let mut known = Vec::with_capacity(alloc, GROUP)?;
         let mut numbers = Vec::with_capacity(alloc, terms.len())?;
-        let mut start = 0;
-        'groups: while start < terms.len() {
+        'groups: while numbers.len() < terms.len() {
+            let start = numbers.len();
             let end = terms.len().min(start + GROUP);
-            ahead.look(&self.marks, &self.terms, terms, start, end)?;
-            let mut count = 0;
-            for at in start..end {
-                let first = ahead.firsts[at - start] as usize;
-                let term = terms.get(at);
-                let number = if first < at {
-                    numbers[first]
-                } else {
-                    count += 1;
-                    self.intern_likely(ahead.likely(count - 1), &term)?
-                };
-                numbers.push(number)?;
-            }
-            start = end;
+            known.clear();
+            ahead.look(&self.marks, &self.terms, terms, start, end, &mut known)?;
+            self.number_known(terms, &known, &mut numbers)?;
         }
+        Ok(numbers)
+    }
+
+    /// The same. `threads` says how many threads may be used, the caller's among them. Where there are many terms, they all look
+    /// terms up before the caller's numbers those that are no names yet; the answer is the same.
+    pub fn intern_all_in_threads<R: Threads + Sync>(
+        &mut self,
+        rt: &R,
+        threads: u32,
+        terms: &Terms,
+    ) -> Result<Vec<u32>, NoMemory>
+        requires { length self.old + length terms.now < 2 ^ 32 }
+        ensures numbers { IfOk result (λ numbers. numbers.items ≡ map (place_of self.new) terms.now) }
+        ensures ok { OnOk result (self.new ≡ with_terms self.old terms.now) }
+        // Else the first of the terms have become names, and no name is lost.
+        ensures err { OnErr result (HasTakenSome self.old terms.now self.new) }
+        ensures distinct { AreDistinct self.new }
+    {
+        let alloc = self.alloc;
+        let count = terms.len();
+        if threads < 2 || count < FEW {
+            return self.intern_all(terms);
+        }
+        let known = look_in_threads(
+            rt,
+            alloc,
+            threads,
+            &self.marks,
+            &self.terms,
+            terms,
+            0,
+            count,
+        )?;
+        let mut numbers = Vec::with_capacity(alloc, count)?;
+        self.number_known(terms, &known, &mut numbers)?;
         Ok(numbers)
     }
 

@@ -1,16 +1,16 @@
 -- The steps of printing the classes.
-use Rattle.std.proofs.Common.{◌≡◌, ℕ, ◌+◌, ◌<◌, true, false, cond, nat_eq, eqb, List, [], ◌∷◌, ◌++◌, length, get_or, take, drop, Option, None, Some, refl, sym, ap, ◌∙◌, arith, ⊎_elim, append_assoc, true≢false}
+use Rattle.std.proofs.Common.{◌≡◌, ℕ, ◌+◌, ◌<◌, true, false, cond, eqb, List, [], ◌∷◌, ◌++◌, length, get_or, take, drop, Option, None, Some, refl, sym, ap, ◌∙◌, arith, ⊎_elim, append_assoc, true≢false}
 use Rattle.std.proofs.lemmas.Bool.{cases_Bool, eqb-true, eq-eqb}
 use Rattle.std.proofs.lemmas.List.{drop_more, take_more, get_or_read, get_or_default}
 use Rattle.std.specs.List.{filter, list_any}
-use Rattle.std.specs.HashMap.{get}
+use Rattle.term_text.specs.Labels.{place_at}
 use Rattle.std.specs.Option.{option_eq}
 use Rattle.term_text.specs.declared.member.Member.{Member}
 use Rattle.term_text.specs.declared.links.Links.{Links}
 use Rattle.term_text.specs.Lines.{has_label, member_in, class_from, rest_text, class_text, lines_after, IsLinked}
 use Rattle.term_text.proofs.Places.{place_splits, place_none, nothing_before, first_found}
 
-abbrev nobody : Member
+abbrev pub nobody : Member
 nobody = record { text = []; label = 0 }
 
 -- what follows a member that links to another
@@ -63,23 +63,23 @@ lines_step members p l =
     ap (lines_after (take p members)) (drop_more members p nobody l)
     ∙ ap (λ before. cond (list_any (has_label (member_in members p).label) (take p members)) [] (class_text (class_from members p)) ++ lines_after before (drop (p + 1) members)) (sym (take_more members p nobody l))
 
-found_first : (links : Links) (members : List Member) (p : ℕ) → IsLinked links members → p < length members → get nat_eq links.firsts (member_in members p).label ≡ Some p → list_any (has_label (member_in members p).label) (take p members) ≡ false
+found_first : (links : Links) (members : List Member) (p : ℕ) → IsLinked links members → p < length members → place_at links.firsts (member_in members p).label ≡ Some p → list_any (has_label (member_in members p).label) (take p members) ≡ false
 found_first links members p linked l e = nothing_before (has_label (member_in members p).label) 0 p p members (omega arith) (sym (linked.first (member_in members p).label) ∙ e)
 
-not_first : (links : Links) (members : List Member) (p : ℕ) → IsLinked links members → p < length members → (get nat_eq links.firsts (member_in members p).label ≡ Some p → ⊥) → list_any (has_label (member_in members p).label) (take p members) ≡ true
+not_first : (links : Links) (members : List Member) (p : ℕ) → IsLinked links members → p < length members → (place_at links.firsts (member_in members p).label ≡ Some p → ⊥) → list_any (has_label (member_in members p).label) (take p members) ≡ true
 not_first links members p linked l other =
     ⊎_elim
     (λ e. e)
     (λ e. absurd (other (linked.first (member_in members p).label ∙ first_found (has_label (member_in members p).label) nobody 0 p p members (omega arith) l (eq-eqb (member_in members p).label (member_in members p).label refl) e)))
     (cases_Bool (list_any (has_label (member_in members p).label) (take p members)))
 
-pub lines_printed : (links : Links) (members : List Member) (p : ℕ) (out new whole : List ℕ) → IsLinked links members → p < length members → get nat_eq links.firsts (member_in members p).label ≡ Some p → new ≡ out ++ class_text (class_from members p) → out ++ lines_after (take p members) (drop p members) ≡ whole → new ++ lines_after (take (p + 1) members) (drop (p + 1) members) ≡ whole
+pub lines_printed : (links : Links) (members : List Member) (p : ℕ) (out new whole : List ℕ) → IsLinked links members → p < length members → place_at links.firsts (member_in members p).label ≡ Some p → new ≡ out ++ class_text (class_from members p) → out ++ lines_after (take p members) (drop p members) ≡ whole → new ++ lines_after (take (p + 1) members) (drop (p + 1) members) ≡ whole
 lines_printed links members p out new whole linked l e grown all =
     ap (λ v. v ++ lines_after (take (p + 1) members) (drop (p + 1) members)) grown
     ∙ (append_assoc out (class_text (class_from members p)) (lines_after (take (p + 1) members) (drop (p + 1) members))
     ∙ (ap (λ v. out ++ v) (sym (lines_step members p l ∙ ap (λ b. cond b [] (class_text (class_from members p)) ++ lines_after (take (p + 1) members) (drop (p + 1) members)) (found_first links members p linked l e))) ∙ all))
 
-pub lines_passed : (links : Links) (members : List Member) (p : ℕ) (out whole : List ℕ) → IsLinked links members → p < length members → (get nat_eq links.firsts (member_in members p).label ≡ Some p → ⊥) → out ++ lines_after (take p members) (drop p members) ≡ whole → out ++ lines_after (take (p + 1) members) (drop (p + 1) members) ≡ whole
+pub lines_passed : (links : Links) (members : List Member) (p : ℕ) (out whole : List ℕ) → IsLinked links members → p < length members → (place_at links.firsts (member_in members p).label ≡ Some p → ⊥) → out ++ lines_after (take p members) (drop p members) ≡ whole → out ++ lines_after (take (p + 1) members) (drop (p + 1) members) ≡ whole
 lines_passed links members p out whole linked l other all =
     ap (λ v. out ++ v) (sym (lines_step members p l ∙ ap (λ b. cond b [] (class_text (class_from members p)) ++ lines_after (take (p + 1) members) (drop (p + 1) members)) (not_first links members p linked l other))) ∙ all
 

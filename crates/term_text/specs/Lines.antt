@@ -1,9 +1,9 @@
 -- The lines of a report, made of members in order (this project's own).
-use Rattle.std.specs.Prelude.{◌≡◌, ℕ, List, [], ◌∷◌, ◌++◌, ◌+◌, ◌<◌, Bool, ◌==◌, nat_eq, filter, length, drop, slice_index_or, if◌then◌else◌, Option, None}
+use Rattle.std.specs.Prelude.{◌≡◌, ℕ, List, [], ◌∷◌, ◌++◌, ◌+◌, ◌<◌, Bool, ◌==◌, filter, length, drop, slice_index_or, if◌then◌else◌, Option, None}
 use Rattle.std.specs.List.{list_any, position_from}
-use Rattle.std.specs.HashMap.{get}
 use Rattle.term_text.specs.declared.member.Member.{Member}
 use Rattle.term_text.specs.declared.links.Links.{Links}
+use Rattle.term_text.specs.Labels.{place_at}
 
 -- whether a member has this label
 abbrev pub has_label : ℕ → Member → Bool
@@ -41,4 +41,4 @@ place_from members k label = position_from (has_label label) k (drop k members)
 pub record IsLinked (links : Links) (members : List Member) : Type 0 where
   pub count : length links.next.items ≡ length members
   pub next : (k : ℕ) → k < length members → slice_index_or links.next.items k None ≡ place_from members (k + 1) (member_in members k).label
-  pub first : (label : ℕ) → get nat_eq links.firsts label ≡ place_from members 0 label
+  pub first : (label : ℕ) → place_at links.firsts label ≡ place_from members 0 label

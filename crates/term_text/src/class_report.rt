@@ -1,6 +1,6 @@
 //! The report of classes.
 
-ghost use Rattle.std.specs.Prelude.{◌≡◌, ◌==◌, IfOk, length, slice_index};
+ghost use Rattle.std.specs.Prelude.{◌≡◌, ◌==◌, ◌<◌, ◌^◌, IfOk, length, slice_index};
 ghost use Rattle.chase_laws.specs.Report.{report_text};
 ghost use Rattle.term_text.specs.CanonicalText.{texts_of};
 ghost use Rattle.term_text.specs.Members.{Prints};
@@ -32,20 +32,23 @@ pub fn report<R: Threads + Sync>(
 {
     let counts = LabelCounts::of_labels(alloc, labels)?;
     let mut members = members_of_names(rt, alloc, threads, names, labels, &counts)?;
-    report_of_members(rt, alloc, threads, &mut members)
+    report_of_members(rt, alloc, threads, names.len(), &mut members)
 }
 
-/// The report of these members, which come by number. It leaves them in the order of their texts.
+/// The report of these members, which come by number. It leaves them in the order of their texts. Labels below this number cost
+/// least.
 fn report_of_members<R: Threads + Sync>(
     rt: &R,
     alloc: Global,
     threads: u32,
+    labels: u32,
     members: &mut [Member],
 ) -> Result<Report, NoMemory>
+    requires few { length members.old < 2 ^ 32 }
     ensures { IfOk result (λ r. Prints members.old r) }
 {
     sort_by_text(rt, alloc, threads, members)?;
-    let links = link(alloc, members)?;
+    let links = link(alloc, members, labels)?;
     let bytes = class_lines(alloc, members, &links)?;
     Ok(Report::from_vec(bytes))
 }

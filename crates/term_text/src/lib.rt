@@ -6,6 +6,7 @@
 //! - `canonical`: the canonical text of terms and triples
 //! - `escapes`: the bytes of IRIs and strings, escaped
 //! - `label_counts`: which labels more than one name has
+//! - `label_places`: a place for each label
 //! - `member`: the names that are printed, with their texts, and their order
 //! - `links`: which member follows which in its class
 //! - `lines`: the lines of the classes
@@ -17,6 +18,7 @@ mod canonical;
 mod class_report;
 mod escapes;
 mod label_counts;
+mod label_places;
 mod lines;
 mod links;
 mod member;

@@ -1,6 +1,6 @@
 //! The lines of the classes, one for each class of two or more.
 
-ghost use Rattle.std.specs.Prelude.{◌≡◌, ◌++◌, ◌<◌, [], IfOk, OnOk, length};
+ghost use Rattle.std.specs.Prelude.{◌≡◌, ◌++◌, ◌<◌, ◌^◌, [], IfOk, OnOk, length};
 ghost use Rattle.term_text.specs.Lines.{IsLinked, lines_after, class_text, class_from};
 
 use crate::links::Links;
@@ -10,12 +10,13 @@ use std::alloc::Global;
 
 /// The lines of all classes of two or more members, by their first members.
 pub fn class_lines(alloc: Global, members: &[Member], links: &Links) -> Result<Vec<u8>, NoMemory>
-    requires { IsLinked links.now members.now }
+    requires linked { IsLinked links.now members.now }
+    requires few { length members.now < 2 ^ 32 }
     ensures { IfOk result (λ v. v.items ≡ lines_after [] members.now) }
 {
     let mut out = Vec::new(alloc);
     for (place, member) in members.iter().enumerate() {
-        if links.firsts.get(&member.label).copied() == Some(place) {
+        if links.firsts.place(member.label) == Some(place as u32) {
             put_line(&mut out, members, links, place)?;
         }
     }
@@ -39,8 +40,8 @@ fn put_line(
     out.extend_from_slice(members[place].text.bytes())?;
     loop {
         out.push(b' ')?;
-        out.extend_from_slice(members[following].text.bytes())?;
-        match links.next[following] {
+        out.extend_from_slice(members[following as usize].text.bytes())?;
+        match links.next[following as usize] {
             Some(further) => following = further,
             None => break,
         }

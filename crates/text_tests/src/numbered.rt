@@ -3,6 +3,7 @@ use gk_base::{NoMemory, Term, Text};
 use std::alloc::Global;
 use std::hash::{FoldHasher, Hasher};
 use std::process::Abort;
+use std::thread::Threads;
 use term_list::{TermRef, Terms};
 use term_table::Names;
 
@@ -34,6 +35,19 @@ fn numbered<R: Abort>(rt: &R, names: &mut Names, terms: &Terms) -> Vec<u32> {
     numbers_of(names, terms)
         .expect(rt, "enough memory")
         .expect(rt, "many names")
+}
+
+/// The numbers of the terms, as three threads look them up. There are none where there are many names or terms.
+fn numbers_by_three<R: Threads + Sync>(
+    rt: &R,
+    names: &mut Names,
+    terms: &Terms,
+) -> Result<Option<Vec<u32>>, NoMemory> {
+    if names.len() < MANY && terms.len() < MANY as usize {
+        Ok(Some(names.intern_all_in_threads(rt, 3, terms)?))
+    } else {
+        Ok(None)
+    }
 }
 
 /// Whether this number was found.
@@ -264,6 +278,29 @@ fn many_names_are_numbered_in_order_and_found(rt: HostRuntime) {
     let numbers = numbered(&rt, &mut names, &terms);
     assert!(rt; numbers.len() == 1400 && names.len() == 1400 && count_up(&numbers));
     expect_digits(&rt, &names);
+}
+
+/// So many terms that three threads share them out.
+const SHARED_OUT: u32 = 9_000;
+
+/// Three threads give these digits, each standing once in the list, their places as their numbers.
+fn expect_in_order<R: Threads + Sync + Abort>(rt: &R, names: &mut Names, terms: &Terms) {
+    let numbers = numbers_by_three(rt, names, terms)
+        .expect(rt, "enough memory")
+        .expect(rt, "many names");
+    assert!(rt; numbers.len() == SHARED_OUT as usize && count_up(&numbers));
+    assert!(rt; names.len() == SHARED_OUT);
+}
+
+#[test]
+fn three_threads_give_the_numbers_of_one(rt: HostRuntime) {
+    let alloc = rt.alloc();
+    let mut names = Names::new(alloc);
+    assert!(rt; are_numbered(alloc, &mut names, 700).expect(&rt, "enough memory"));
+    let terms = digits_below(alloc, SHARED_OUT).expect(&rt, "enough memory");
+    expect_in_order(&rt, &mut names, &terms);
+    // All of them are names now.
+    expect_in_order(&rt, &mut names, &terms);
 }
 
 /// Each sample beside the number of the first that is alike to it.

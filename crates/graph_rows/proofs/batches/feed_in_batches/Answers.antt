@@ -42,15 +42,15 @@ batches-init g c =
 pub take_triples-requires : goal.take_triples-requires
 take_triples-requires g c = c.batches.invariant.none
 
-pub add-requires : goal.add-requires
-add-requires g c =
+pub add-requires-after_bounds : goal.add-requires-after_bounds
+add-requires-after_bounds g c κs within =
     let i = c.batches.invariant in
     let t = c.take_triples.ensures in
     taken_few c.take_triples.new.self c.args.rows.now c.batches.rows i.fed.0 c.take_triples.new.into i.fed.1 (t.running.1 i.running)
     (subst (λ (l : Limits). LeaveRoom c.args.rows.now l.triples) (sym t.limits) i.room) i.fed.2.stand (t.taken i.fed.0 i.fed.1 i.fed.2.has)
 
 pub number_and_feed-requires-clause-names : goal.number_and_feed-requires-clause-names
-number_and_feed-requires-clause-names g c =
+number_and_feed-requires-clause-names g c κs within =
     let i = c.batches.invariant in
     let t = c.take_triples.ensures in
     taken_few c.take_triples.new.self c.args.rows.now c.batches.rows i.fed.0 c.take_triples.new.into i.fed.1 (t.running.1 i.running)

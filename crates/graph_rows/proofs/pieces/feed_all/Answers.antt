@@ -38,8 +38,8 @@ returns-in_err-count-clause-feeds g c =
 pub take_triples-requires : goal.take_triples-requires
 take_triples-requires g c = c.pieces.invariant.none
 
-pub add-requires : goal.add-requires
-add-requires g c =
+pub add-requires-after_bounds : goal.add-requires-after_bounds
+add-requires-after_bounds g c κs within =
     let i = c.pieces.invariant in
     let f = c.in_ok-count.ensures in
     let t = c.take_triples.ensures in

@@ -27,8 +27,8 @@ returns-in_err-last-clause-reads g c =
     rw (p.1, p.2, m.2) (gives_nothing g.S.Shelf a.shelf.now c.find.new.self c.feed_file.new.shelf a.limits.now a.name.now
     (o.cause.ok refl) (f.asked ∙ o.asked ∙ ap (λ (n : List ℕ). Some n) named) (rw named at o.found) m.0 c.new-reader.result.limits c.feed_file.new.reader (GoOn c.expect.new.self c.feed_file.new.rows) c.new-reader.ensures.limits f.limits f.feeds (rw m.1 at c.finish.ensures.says))
 
-pub add-requires : goal.add-requires
-add-requires g c =
+pub add-requires-after_bounds : goal.add-requires-after_bounds
+add-requires-after_bounds g c κs within =
     let a = c.args in
     let o = c.in_ok-find.ensures in
     let named = c.in_ok-copy.ensures in

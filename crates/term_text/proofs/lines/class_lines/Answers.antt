@@ -1,5 +1,5 @@
-use Rattle.std.proofs.Common.{◌≡◌, ◌+◌, ◌<◌, ℕ, nat_eq, ◌++◌, take, drop, sym, ap, ◌∙◌, length}
-use Rattle.std.specs.HashMap.{get}
+use Rattle.std.proofs.Common.{◌≡◌, ◌+◌, ◌<◌, ◌++◌, take, drop, sym, ap, ◌∙◌, length}
+use Rattle.term_text.specs.Labels.{place_at}
 use Rattle.term_text.proofs.LineSteps.{label_read, some_found, none_found, lines_printed, lines_passed}
 use Rattle.term_text.specs.Lines.{member_in, lines_after}
 use Rattle.term_text.proofs.lines.class_lines.Goals as goal
@@ -12,9 +12,9 @@ loop-place-preserved c =
     let place = c.loop-place.place in
     let inside : place < length members = c.loop-place-test.true in
     let label = label_read members place c.index-members-place.result inside c.index-members-place.is in
-    let found : c.copied.result ≡ get nat_eq links.firsts (member_in members place).label = c.copied.ensures ∙ (c.get.ensures.value ∙ ap (λ (v : ℕ). get nat_eq links.firsts v) label) in
+    let found : c.place.result ≡ place_at links.firsts (member_in members place).label = c.place.ensures ∙ ap (place_at links.firsts) label in
     elim c.if-eq.branch [
-      | then-eq+in_ok-put_line w ↦ lines_printed links members place _ _ _ c.requires inside (sym found ∙ some_found _ place (sym c.eq.ensures ∙ w.if-eq.true)) (ap (λ v. v.items) w.out-is ∙ w.in_ok-put_line.ensures) c.loop-place.invariant
+      | then-eq+in_ok-put_line w ↦ lines_printed links members place _ _ _ c.requires.linked inside (sym found ∙ some_found _ place (sym c.eq.ensures ∙ w.if-eq.true)) (ap (λ v. v.items) w.out-is ∙ w.in_ok-put_line.ensures) c.loop-place.invariant
       | else-eq w ↦ ap (λ v. v.items ++ lines_after (take (place + 1) members) (drop (place + 1) members)) w.out-is
-          ∙ lines_passed links members place _ _ c.requires inside (λ e. none_found _ place (sym c.eq.ensures ∙ w.if-eq.false) (found ∙ e)) c.loop-place.invariant
+          ∙ lines_passed links members place _ _ c.requires.linked inside (λ e. none_found _ place (sym c.eq.ensures ∙ w.if-eq.false) (found ∙ e)) c.loop-place.invariant
     ]

@@ -7,16 +7,16 @@ use Rattle.graph_rows.specs.declared.rows.Rows.{Rows}
 use Rattle.graph_rows.proofs.NumberedRows.{in_threes-terms, stand_more}
 use Rattle.graph_rows.proofs.rows.Rows.add.Goals as goal
 
-pub intern_all-requires : goal.intern_all-requires
-intern_all-requires c =
+pub intern_all_in_threads-requires-after_bounds : goal.intern_all_in_threads-requires-after_bounds
+intern_all_in_threads-requires-after_bounds g c κs within =
     let terms = ap length c.terms.ensures in
     let three = length-terms_of c.args.triples.now in
     omega (arith, c.requires, terms, three)
 
 pub returns-clause-stand : goal.returns-clause-stand
-returns-clause-stand c =
+returns-clause-stand g c =
     let triples = c.args.triples.now in
-    let names = c.intern_all.new.self in
+    let names = c.intern_all_in_threads.new.self in
     let new : Rows = record { names = names; rows = c.push_rows.new.rows } in
     λ before s.
     stand_more c.args.self.now new before triples s (c.in_ok-numbers.ensures.ok ∙ ap (with_terms c.args.self.now.names) c.terms.ensures)
