@@ -26,7 +26,7 @@ pub left_by-left-requires : goal.left_by-left-requires
 left_by-left-requires g c = let t = c.in_ok-first.ensures.gives.1 in (t.0, t.1.stand, t.1.few)
 
 pub read_more-requires-clause-room : goal.read_more-requires-clause-room
-read_more-requires-clause-room g c =
+read_more-requires-clause-room g c κs within =
     let t = c.in_ok-first.ensures.gives.1 in
     let e = c.left_by-left.ensures t.0 t.1.stand in
     let n = ap (λ (l : Limits). l.triples) e in
