@@ -1,12 +1,13 @@
 -- Packed terms stay as bytes and spans are added behind them.
-use Rattle.std.proofs.Common.{◌≡◌, ◌⊎◌, ℕ, zero, suc, ◌-◌, ◌≤◌, ◌<◌, inl, inr, List, [], ◌∷◌, ◌++◌, length, take, drop, slice_get, slice_index_or, slice_range, Some, option_map, refl, sym, ap, subst, ◌∙◌, arith}
+use Rattle.std.proofs.Common.{◌≡◌, ◌⊎◌, ℕ, zero, suc, ◌+◌, ◌-◌, ◌≤◌, ◌<◌, inl, inr, List, [], ◌∷◌, ◌++◌, length, take, drop, slice_get, slice_index_or, slice_range, Some, option_map, Result, Ok, Err, OnOk, OnErr, map, refl, sym, ap, ap₂, subst, ◌∙◌, arith}
+use Rattle.std.proofs.Math.Seq.{drop-append-add}
 use Rattle.std.proofs.lemmas.List.{map-append, take-append-le, length-append, length-map}
 use Rattle.std.proofs.lemmas.Option.{slice_get_read, slice_get-map}
 use Rattle.std.proofs.lemmas.Slice.{between_is}
 use Rattle.gk_base.specs.declared.term.Term.{Term}
 use Rattle.term_list.specs.declared.span.Span.{Span}
 use Rattle.term_list.specs.Parts.{made_of}
-use Rattle.term_list.specs.Packed.{term_in, terms_in, IsWithin, AreWithin, HasGrown}
+use Rattle.term_list.specs.Packed.{term_in, terms_in, moved_by, IsWithin, AreWithin, HasGrown}
 
 -- an element of a list with one put last is an older one or that one
 module _ {X : Type 0} where
@@ -93,3 +94,64 @@ module _ (bytes : List ℕ) (spans : List Span) (terms : List Term) (at : ℕ) (
 -- a part that ends where it begins is empty
 pub part_none : (bytes : List ℕ) (from to : ℕ) → from ≡ to → slice_range bytes from to ≡ []
 part_none bytes from to e = let none : to - from ≡ 0 = omega (arith, e) in ap (λ n. take n (drop from bytes)) none
+
+-- a part of a list is the same part, further on, of what has the list at its end
+part_moved : (front bytes : List ℕ) (from to : ℕ) → slice_range (front ++ bytes) (from + length front) (to + length front) ≡ slice_range bytes from to
+part_moved front bytes from to =
+    let count : (to + length front) - (from + length front) ≡ to - from = omega arith in
+    let start : from + length front ≡ length front + from = omega arith in
+    ap (λ n. take n (drop (from + length front) (front ++ bytes))) count ∙ ap (λ n. take (to - from) (drop n (front ++ bytes))) start
+    ∙ ap (take (to - from)) (drop-append-add front bytes from)
+
+term_moved : (front bytes : List ℕ) (span : Span) → term_in (front ++ bytes) (moved_by (length front) span) ≡ term_in bytes span
+term_moved front bytes span =
+    ap₂ (made_of span.kind) (part_moved front bytes span.start span.middle) (part_moved front bytes span.middle span.end)
+
+terms_moved : (front bytes : List ℕ) (spans : List Span) → terms_in (front ++ bytes) (map (moved_by (length front)) spans) ≡ terms_in bytes spans
+terms_moved front bytes [] = refl
+terms_moved front bytes (span ∷ spans) = ap₂ (λ (t : Term) ts. t ∷ ts) (term_moved front bytes span) (terms_moved front bytes spans)
+
+IsWithin-moved : (by size most : ℕ) (span : Span) → size + by ≤ most → IsWithin size span → IsWithin most (moved_by by span)
+IsWithin-moved by size most span le h = record {
+  first = omega (arith, h.first);
+  second = omega (arith, h.second);
+  inside = omega (arith, le, h.inside);
+  one = λ e. ap (λ n. n + by) (h.one e);
+}
+
+AreWithin-moved : (by size most : ℕ) (spans : List Span) → size + by ≤ most → AreWithin size spans → AreWithin most (map (moved_by by) spans)
+AreWithin-moved by size most [] le h i span at = absurd cc
+AreWithin-moved by size most (s ∷ ss) le h zero span at =
+    let e : moved_by by s ≡ span = cc in subst (IsWithin most) e (IsWithin-moved by size most s le (h zero s refl))
+AreWithin-moved by size most (s ∷ ss) le h (suc i) span at = AreWithin-moved by size most ss le (λ j other there. h (suc j) other there) i span at
+
+AreWithin-both : (size : ℕ) (spans more : List Span) → AreWithin size spans → AreWithin size more → AreWithin size (spans ++ more)
+AreWithin-both size [] more h k i span at = k i span at
+AreWithin-both size (s ∷ ss) more h k zero span at = h zero span at
+AreWithin-both size (s ∷ ss) more h k (suc i) span at = AreWithin-both size ss more (λ j other there. h (suc j) other there) k i span at
+
+-- the terms of another list, whose texts went behind those that were there
+module _ (bytes more : List ℕ) (spans others : List Span) (h : AreWithin (length bytes) spans) where
+  pub terms_in-appended : terms_in (bytes ++ more) (spans ++ map (moved_by (length bytes)) others) ≡ terms_in bytes spans ++ terms_in more others
+  terms_in-appended =
+      map-append (term_in (bytes ++ more)) spans (map (moved_by (length bytes)) others)
+      ∙ ap₂ (λ (ts us : List Term). ts ++ us) (terms_stay bytes more spans h) (terms_moved bytes more others)
+
+  whole : length bytes ≤ length (bytes ++ more)
+  whole = omega (arith, length-append bytes more)
+
+  -- they are in place whether their spans came, too, or not
+  pub AreWithin-appended : {A E : Type 0} (answer : Result A E) (new : List Span) → AreWithin (length more) others
+      → OnOk answer (new ≡ spans ++ map (moved_by (length bytes)) others) → OnErr answer (new ≡ spans) → AreWithin (length (bytes ++ more)) new
+  AreWithin-appended (Ok x) new k grown same =
+      subst (AreWithin (length (bytes ++ more))) (sym grown)
+      (AreWithin-both (length (bytes ++ more)) spans (map (moved_by (length bytes)) others) (AreWithin-more (length bytes) (length (bytes ++ more)) spans whole h)
+      (AreWithin-moved (length bytes) (length more) (length (bytes ++ more)) others (omega (arith, length-append bytes more)) k))
+  AreWithin-appended (Err e) new k grown same =
+      subst (AreWithin (length (bytes ++ more))) (sym same) (AreWithin-more (length bytes) (length (bytes ++ more)) spans whole h)
+
+-- spans that lie within so many bytes leave room to be moved
+pub room_to_move : (size room : ℕ) (spans : List Span) → size ≤ room → AreWithin size spans → (k : ℕ) (d : Span) → k < length spans → IsWithin room (slice_index_or spans k d)
+room_to_move size room [] le h k d below = absurd (omega arith)
+room_to_move size room (s ∷ ss) le h zero d below = IsWithin-more size room s le (h zero s refl)
+room_to_move size room (s ∷ ss) le h (suc k) d below = room_to_move size room ss le (λ i other there. h (suc i) other there) k d (omega arith)

@@ -1,5 +1,5 @@
 -- Terms that come in threes.
-use Rattle.std.proofs.Common.{◌≡◌, ℕ, ◌+◌, ◌-◌, ◌*◌, ◌/◌, ◌<◌, List, [], ◌∷◌, ◌++◌, length, drop, slice_get, Some, Result, Ok, Err, OnOk, OnErr, refl, sym, ap, subst, ◌∙◌, arith, append_assoc}
+use Rattle.std.proofs.Common.{◌≡◌, ◌*◌, ◌/◌, List, [], ◌∷◌, ◌++◌, length, Result, Ok, Err, OnOk, OnErr, refl, sym, ap, ap₂, subst, ◌∙◌, arith}
 use Rattle.gk_base.specs.declared.term.Term.{Term}
 use Rattle.gk_base.specs.declared.term.Triple.{Triple}
 use Rattle.term_list.specs.Triples.{triple_terms, terms_of, triples_in, AreWhole}
@@ -29,6 +29,18 @@ pub AreWhole-after : {A E : Type 0} (answer : Result A E) (terms new : List Term
     → OnOk answer (new ≡ terms ++ triple_terms t) → OnErr answer (new ≡ terms) → AreWhole new
 AreWhole-after (Ok x) terms new t whole grown same = AreWhole-pushed terms new t whole grown
 AreWhole-after (Err e) terms new t whole grown same = subst AreWhole (sym same) whole
+
+-- the triples of another list
+module _ (terms more : List Term) (whole : AreWhole terms) (wholes : AreWhole more) where
+  joined : terms ++ more ≡ terms_of (triples_in terms ++ triples_in more)
+  joined = ap₂ (λ (a b : List Term). a ++ b) (sym whole) (sym wholes) ∙ sym (terms_of-append (triples_in terms) (triples_in more))
+
+  pub triples_in-appended : triples_in (terms ++ more) ≡ triples_in terms ++ triples_in more
+  triples_in-appended = ap triples_in joined ∙ triples_in-terms_of (triples_in terms ++ triples_in more)
+
+  pub AreWhole-appended : {A E : Type 0} (answer : Result A E) (new : List Term) → OnOk answer (new ≡ terms ++ more) → OnErr answer (new ≡ terms) → AreWhole new
+  AreWhole-appended (Ok x) new grown same = subst AreWhole (sym grown) (ap terms_of triples_in-appended ∙ sym joined)
+  AreWhole-appended (Err e) new grown same = subst AreWhole (sym same) whole
 
 -- three terms a triple
 pub length-terms_of : (triples : List Triple) → length (terms_of triples) ≡ 3 * length triples

@@ -1,5 +1,5 @@
 -- Terms that are packed: their texts one after another in one list of bytes, and where each of them stands (this project's own).
-use Rattle.std.specs.Prelude.{◌≡◌, ℕ, ◌≤◌, false, List, ◌++◌, map, slice_get, slice_range, Some}
+use Rattle.std.specs.Prelude.{◌≡◌, ℕ, ◌+◌, ◌≤◌, false, List, ◌++◌, map, slice_get, slice_range, Some}
 use Rattle.gk_base.specs.declared.term.Term.{Term}
 use Rattle.term_list.specs.declared.span.Span.{Span}
 use Rattle.term_list.specs.Parts.{has_two, made_of}
@@ -11,6 +11,10 @@ term_in bytes span = made_of span.kind (slice_range bytes span.start span.middle
 -- the terms of these spans
 abbrev pub terms_in : List ℕ → List Span → List Term
 terms_in bytes spans = map (term_in bytes) spans
+
+-- the span of texts that stand so many bytes further on
+abbrev pub moved_by : ℕ → Span → Span
+moved_by by span = record { kind = span.kind; start = span.start + by; middle = span.middle + by; end = span.end + by }
 
 -- the span lies within so many bytes, and its second text is empty where terms of its kind have one text
 pub record IsWithin (size : ℕ) (span : Span) : Type 0 where

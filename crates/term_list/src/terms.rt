@@ -1,13 +1,16 @@
 //! A list of terms.
 
-ghost use Rattle.std.specs.Prelude.{◌≡◌, ◌<◌, ◌≤◌, ◌↔◌, IsTrue, [], ◌∷◌, ◌++◌, length, take, slice_get, slice_range, Some, OnOk, OnErr, IfOk};
-ghost use Rattle.term_list.specs.Packed.{term_in, IsWithin, HasGrown};
+ghost use Rattle.std.specs.Prelude.{◌≡◌, ◌-◌, ◌^◌, ◌<◌, ◌≤◌, ◌↔◌, IsTrue, All, [], ◌∷◌, ◌++◌, length, map, take, slice_get, slice_range, Some, OnOk, OnErr, IfOk};
+ghost use Rattle.term_list.specs.Packed.{term_in, moved_by, IsWithin, HasGrown};
 
 use crate::TermRef;
 use crate::span::Span;
 use gk_base::NoMemory;
 use std::alloc::Global;
 use std::marker::Model;
+
+/// The most bytes that the texts of a list may have in all, since they have places of four bytes.
+const MOST_BYTES: usize = u32::MAX as usize;
 
 /// A list of terms, whose texts stand one after another in one region of memory. It holds texts of 2^32 - 1 bytes in all at
 /// most. Contracts see the list of the terms.
@@ -27,6 +30,31 @@ impl Model for Terms {
     ghost view = { λ t. terms_in t.bytes.items t.spans.items };
 
     ghost invariant = { λ t. AreWithin (length t.bytes.items) t.spans.items };
+}
+
+/// Puts these spans at the end of a list, each so many bytes further on; all or none.
+fn push_moved(spans: &mut Vec<Span>, more: &[Span], by: u32) -> Result<(), NoMemory>
+    requires { All (λ span. IsWithin (2 ^ 32 - 1 - by) span) more.now }
+    ensures ok { OnOk result (spans.new.items ≡ spans.old.items ++ map (moved_by by) more.now) }
+    ensures err { OnErr result (spans.new.items ≡ spans.old.items) }
+{
+    let len = spans.len();
+    let mut at = 0;
+    while at < more.len() {
+        let span = more[at];
+        let moved = Span {
+            kind: span.kind,
+            start: span.start + by,
+            middle: span.middle + by,
+            end: span.end + by,
+        };
+        if spans.push(moved).is_err() {
+            spans.truncate(len);
+            return Err(NoMemory);
+        }
+        at += 1;
+    }
+    Ok(())
 }
 
 /// The bytes from one place to another.
@@ -51,7 +79,7 @@ fn put_texts(bytes: &mut Vec<u8>, term: &TermRef<'_>) -> Result<Span, NoMemory>
     let middle = bytes.len();
     bytes.extend_from_slice(term.second)?;
     let end = bytes.len();
-    if end > u32::MAX as usize {
+    if end > MOST_BYTES {
         return Err(NoMemory);
     }
     Ok(Span {
@@ -111,6 +139,20 @@ impl Terms {
         let span = put_texts(&mut self.bytes, term)?;
         self.spans.push(span)?;
         Ok(())
+    }
+
+    /// Puts copies of the terms of another list at the end. After `NoMemory`, which comes also where the texts of both would
+    /// be longer than a list can hold, the list is as it was.
+    pub fn append(&mut self, other: &Terms) -> Result<(), NoMemory>
+        ensures ok { OnOk result (self.new ≡ self.old ++ other.now) }
+        ensures err { OnErr result (self.new ≡ self.old) }
+    {
+        let start = self.bytes.len();
+        if start > MOST_BYTES || other.bytes.len() > MOST_BYTES - start {
+            return Err(NoMemory);
+        }
+        self.bytes.extend_from_slice(&other.bytes)?;
+        push_moved(&mut self.spans, &other.spans, start as u32)
     }
 
     /// Keeps the first so many terms.

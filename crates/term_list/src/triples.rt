@@ -83,6 +83,14 @@ impl Triples {
         push_three(&mut self.terms, subject, predicate, object)
     }
 
+    /// Puts copies of the triples of another list at the end. After `NoMemory` the list is as it was.
+    pub fn append(&mut self, other: &Triples) -> Result<(), NoMemory>
+        ensures ok { OnOk result (self.new ≡ self.old ++ other.now) }
+        ensures err { OnErr result (self.new ≡ self.old) }
+    {
+        self.terms.append(&other.terms)
+    }
+
     /// Leaves no triples. The memory stays, for further ones.
     pub fn clear(&mut self)
         ensures { self.new ≡ [] }
