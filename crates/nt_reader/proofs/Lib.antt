@@ -1,6 +1,7 @@
 pub mod CallerLemmas
 mod CutLemmas
 mod FileLemmas
+mod JoinLemmas
 mod LineAnswers
 mod LineLemmas
 mod LinedLemmas

@@ -3,7 +3,7 @@ use Rattle.std.proofs.Common.{◌≡◌, ℕ, ◌+◌, ◌-◌, ◌<◌, ◌≤�
 use Rattle.std.proofs.lemmas.List.{take-append-drop, take-take, drop-take, take_more, drop_more, nil_from_length, length-take, length-drop, get_or-take, get_or-drop}
 use Rattle.std.proofs.lemmas.List.Elements.{All-from_get_or}
 use Rattle.nt_lex.specs.Scans.{AllPassBetween}
-use Rattle.std.specs.List.{AllPass, filter_map}
+use Rattle.std.specs.List.{AllPass}
 use Rattle.gk_base.specs.declared.limits.Limits.{Limits}
 use Rattle.gk_base.specs.declared.term.Triple.{Triple}
 use Rattle.gk_base.specs.declared.read_fault.ReadRefusal.{ReadRefusal}
@@ -40,7 +40,7 @@ refused_after most taken triples room line fault sum r = record {
 }
 
 -- from the cut of the bytes to the state after them
-after : (limits : Limits) (new : State) (taken : List Triple) (bytes : List ℕ) (cut : Cut) → cut_of bytes ≡ cut → new.bytes ≡ length bytes → length bytes ≤ limits.bytes
+pub after : (limits : Limits) (new : State) (taken : List Triple) (bytes : List ℕ) (cut : Cut) → cut_of bytes ≡ cut → new.bytes ≡ length bytes → length bytes ≤ limits.bytes
     → new.kept.items ≡ cut.rest → new.line ≡ length cut.ended + 1 → new.after_return ≡ cut.returned
     → AreGood cut.ended (taken ++ new.triples) → length taken + new.room ≡ limits.triples → length new.triples ≤ new.room
     → IsFrontOf limits (front_of new) taken bytes
