@@ -91,7 +91,7 @@ fn read_proof<S: Shelf>(
 
 /// The rows of the graph and the keys, or the ending of a run that can't have them: the graph comes first, then the key
 /// file.
-fn read_graph_and_keys<Rt: Threads + Sync, S: Shelf>(
+fn read_graph_and_keys<Rt: Threads + Wait + Sync, S: Shelf>(
     rt: &Rt,
     alloc: Global,
     threads: u32,
@@ -126,7 +126,7 @@ fn left_by(limits: &Limits, rows: &Rows) -> Limits
 }
 
 /// The rows of a graph behind those that are there, under these limits, or the ending of a run that can't have them.
-fn read_more<Rt: Threads + Sync, S: Shelf>(
+fn read_more<Rt: Threads + Wait + Sync, S: Shelf>(
     rt: &Rt,
     alloc: Global,
     threads: u32,
@@ -150,7 +150,7 @@ fn read_more<Rt: Threads + Sync, S: Shelf>(
 /// The rows of two graphs, those of the second behind those of the first, and the keys, or the ending of a run that can't have
 /// them: the graph comes first, then the one that is added to it, under what the first leaves of the limits, then the key
 /// file.
-fn read_graphs_and_keys<Rt: Threads + Sync, S: Shelf>(
+fn read_graphs_and_keys<Rt: Threads + Wait + Sync, S: Shelf>(
     rt: &Rt,
     alloc: Global,
     threads: u32,
@@ -397,7 +397,7 @@ fn checker_and_proof<Rt: Threads, S: Shelf>(
 
 /// The answer of `check` and its text, or the ending of a run that has none: the graph comes first, then the key file, then
 /// the proof file, then the checker.
-pub(crate) fn checked<Rt: Threads + Sync, S: Shelf>(
+pub(crate) fn checked<Rt: Threads + Wait + Sync, S: Shelf>(
     rt: &Rt,
     alloc: Global,
     shelf: &mut S,

@@ -58,11 +58,6 @@ ok_from_cases (Err stop) mapped y h e = absurd (subst (λ m. IsErrAnd m (λ f. f
 stopped_by : (reading : Reading) (stop : ReadStop) → reading.so_far ≡ Err stop → (taken : List Triple) (bytes : List ℕ) → HasRead reading taken bytes → IsStopped reading.limits bytes stop
 stopped_by reading stop e taken bytes h = subst (λ (r : Result Front ReadStop). IsSo (HasCome reading.limits taken bytes) r) e h
 
--- a reader that took a piece had not stopped
-pub was_running : {A : Type 0} (so_far : Result Front ReadStop) (result : Result A ReadStop) (x : A) → ((stop : ReadStop) → so_far ≡ Err stop → result ≡ Err stop) → result ≡ Ok x → IsOk so_far
-was_running (Ok front) result x again ok = refl
-was_running (Err stop) result x again ok = absurd (let e = again stop refl in cc)
-
 -- of the triples that may come, a running reader has given no more
 came_few : (limits : Limits) (come : Result Front ReadStop) (taken : List Triple) (seen : List ℕ) → IsOk come → IsSo (HasCome limits taken seen) come → length taken ≤ limits.triples
 came_few limits (Ok front) taken seen k h = omega (arith, h.room)

@@ -2,4 +2,5 @@ mod Told
 mod NumberedRows
 mod TwoGraphs
 mod FeedingLemmas
+mod PartLemmas
 pub mod CallerLemmas

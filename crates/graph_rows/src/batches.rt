@@ -9,9 +9,13 @@ ghost use Rattle.graph_rows.specs.Feeding.{FeedsBatch, FeedsAll};
 
 use crate::pieces::feed_next;
 use crate::rows::Rows;
+use crate::second_reader::{ReadRear, SecondReader, read_rears};
+use crossbeam_channel::{Receiver, Sender, unbounded};
 use gk_base::{NoMemory, ReadRefusal};
 use gk_io::{FileStop, Shelf};
 use nt_reader::Reader;
+use std::alloc::Global;
+use std::sync::Wait;
 use std::thread::{Threads, join_mut};
 use term_list::Triples;
 
@@ -24,9 +28,11 @@ const FIRST: usize = 131_072;
 const LARGEST: usize = 4_194_304;
 
 /// Reads and feeds the pieces of a batch of so many bytes, or those that are left, and answers whether the file is at its end.
-fn feed_batch<S: Shelf>(
+fn feed_batch<S: Shelf, R: Wait>(
+    rt: &R,
     shelf: &mut S,
     buf: &mut Vec<u8>,
+    second: &mut Option<SecondReader>,
     reader: &mut Reader,
     size: usize,
 ) -> Result<bool, FileStop<ReadRefusal>>
@@ -42,7 +48,7 @@ fn feed_batch<S: Shelf>(
 {
     let mut bytes = 0;
     'pieces: while bytes < size {
-        let count = feed_next(shelf, buf, reader)?;
+        let count = feed_next(rt, shelf, buf, second, reader)?;
         if count == 0 {
             return Ok(true);
         }
@@ -53,11 +59,12 @@ fn feed_batch<S: Shelf>(
 
 /// Numbers these triples, behind those that came before, while the next batch is read and fed. It leaves the list empty, and
 /// answers whether the file is at its end. What stops the reading is the answer, whatever became of the numbering.
-fn number_and_feed<S: Shelf, R: Threads + Sync>(
+fn number_and_feed<S: Shelf, R: Threads + Wait + Sync>(
     rt: &R,
     threads: u32,
     shelf: &mut S,
     buf: &mut Vec<u8>,
+    second: &mut Option<SecondReader>,
     reader: &mut Reader,
     triples: &mut Triples,
     rows: &mut Rows,
@@ -82,7 +89,7 @@ fn number_and_feed<S: Shelf, R: Threads + Sync>(
         &mut || -> Result<(), NoMemory>
             requires { length rows.now.names + 3 * length triples.now < 2 ^ 32 }
         { rows.add(rt, theirs, triples) },
-        &mut || feed_batch(shelf, buf, reader, size),
+        &mut || feed_batch(rt, shelf, buf, second, reader, size),
     );
     let at_end = fed?;
     numbered?;
@@ -91,8 +98,72 @@ fn number_and_feed<S: Shelf, R: Threads + Sync>(
 
 /// Reads on to the end of the file. The triples that a batch ends are numbered, behind those that are there, while the next
 /// batch is read. So each lies in one of two lists, that of the reader or this one, which change places between two batches.
-pub(crate) fn feed_in_batches<S: Shelf, R: Threads + Sync>(
+pub(crate) fn feed_in_batches<S: Shelf, R: Threads + Wait + Sync>(
     rt: &R,
+    threads: u32,
+    shelf: &mut S,
+    buf: &mut Vec<u8>,
+    second: &mut Option<SecondReader>,
+    reader: &mut Reader,
+    triples: &mut Triples,
+    rows: &mut Rows,
+) -> Result<(), FileStop<ReadRefusal>>
+    requires some { 0 < vec_len buf.old }
+    requires few { vec_len buf.old ≤ 65536 }
+    requires room { LeaveRoom rows.old reader.old.limits.triples }
+    requires fresh { HasRead reader.old [] [] }
+    requires running { IsOk reader.old.so_far }
+    requires none { triples.old ≡ [] }
+    ensures held { S.held shelf.new ≡ S.held shelf.old }
+    ensures asked { S.asked shelf.new ≡ S.asked shelf.old }
+    ensures limits { reader.new.limits ≡ reader.old.limits }
+    ensures feeds { FeedsAll S.Shelf shelf.old shelf.new reader.old.limits reader.new (GoOn rows.old rows.new) result }
+{
+    let mut size = FIRST;
+    let mut at_end = feed_batch(rt, shelf, buf, second, reader, size)?;
+    'batches: loop {
+        reader.take_triples(triples);
+        if at_end {
+            rows.add(rt, threads, triples)?;
+            return Ok(());
+        }
+        size = LARGEST.min(size * 2);
+        at_end = number_and_feed(rt, threads, shelf, buf, second, reader, triples, rows, size)?;
+    }
+}
+
+/// Reads on to the end of the file as `feed_in_batches` does, and lets the second thread that reads go then.
+fn feed_to_end<S: Shelf, R: Threads + Wait + Sync>(
+    rt: &R,
+    threads: u32,
+    shelf: &mut S,
+    buf: &mut Vec<u8>,
+    second: &mut Option<SecondReader>,
+    reader: &mut Reader,
+    triples: &mut Triples,
+    rows: &mut Rows,
+) -> Result<(), FileStop<ReadRefusal>>
+    requires some { 0 < vec_len buf.old }
+    requires few { vec_len buf.old ≤ 65536 }
+    requires room { LeaveRoom rows.old reader.old.limits.triples }
+    requires fresh { HasRead reader.old [] [] }
+    requires running { IsOk reader.old.so_far }
+    requires none { triples.old ≡ [] }
+    ensures held { S.held shelf.new ≡ S.held shelf.old }
+    ensures asked { S.asked shelf.new ≡ S.asked shelf.old }
+    ensures limits { reader.new.limits ≡ reader.old.limits }
+    ensures feeds { FeedsAll S.Shelf shelf.old shelf.new reader.old.limits reader.new (GoOn rows.old rows.new) result }
+{
+    let answer = feed_in_batches(rt, threads, shelf, buf, second, reader, triples, rows);
+    *second = None;
+    answer
+}
+
+/// Reads on to the end of the file as `feed_in_batches` does, while a second thread reads parts of the pieces, which is one less
+/// for the numbering.
+pub(crate) fn feed_with_second<S: Shelf, R: Threads + Wait + Sync>(
+    rt: &R,
+    alloc: Global,
     threads: u32,
     shelf: &mut S,
     buf: &mut Vec<u8>,
@@ -111,15 +182,26 @@ pub(crate) fn feed_in_batches<S: Shelf, R: Threads + Sync>(
     ensures limits { reader.new.limits ≡ reader.old.limits }
     ensures feeds { FeedsAll S.Shelf shelf.old shelf.new reader.old.limits reader.new (GoOn rows.old rows.new) result }
 {
-    let mut size = FIRST;
-    let mut at_end = feed_batch(shelf, buf, reader, size)?;
-    'batches: loop {
-        reader.take_triples(triples);
-        if at_end {
-            rows.add(rt, threads, triples)?;
-            return Ok(());
-        }
-        size = LARGEST.min(size * 2);
-        at_end = number_and_feed(rt, threads, shelf, buf, reader, triples, rows, size)?;
-    }
+    let (rears, to_read): (Sender<Vec<u8>>, Receiver<Vec<u8>>) = unbounded(alloc)?;
+    let (send_back, read): (Sender<ReadRear>, Receiver<ReadRear>) = unbounded(alloc)?;
+    let mut second = Some(SecondReader {
+        alloc,
+        rears,
+        read,
+        waiting: 0,
+    });
+    let others = threads.saturating_sub(1);
+    join_mut(
+        rt,
+        &mut || read_rears(rt, alloc, &to_read, &send_back),
+        &mut || -> Result<(), FileStop<ReadRefusal>>
+            requires some { 0 < vec_len buf.now }
+            requires few { vec_len buf.now ≤ 65536 }
+            requires room { LeaveRoom rows.now reader.now.limits.triples }
+            requires fresh { HasRead reader.now [] [] }
+            requires running { IsOk reader.now.so_far }
+            requires none { triples.now ≡ [] }
+        { feed_to_end(rt, others, shelf, buf, &mut second, reader, triples, rows) },
+    )
+    .1
 }

@@ -6,6 +6,7 @@
 //! - `rows`: triples in numbers
 //! - `pieces`: a graph's rows, read piece by piece
 //! - `batches`: reading and numbering at once, in two threads
+//! - `second_reader`: a second thread that reads and judges
 //! - `numbering`: names, graph and patterns in numbers
 //! - `growth`: names, two graphs of which the second has all rows of the first, and patterns in numbers
 #![tactic(auto)]
@@ -16,6 +17,7 @@ mod loading;
 mod numbering;
 mod pieces;
 mod rows;
+mod second_reader;
 
 pub use growth::{Growth, number_growth};
 pub use loading::load;

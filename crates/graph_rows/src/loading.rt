@@ -12,14 +12,16 @@ use std::alloc::Global;
 /// The most bytes that are read at once. What is made of a piece of a graph, its terms, their numbers and the places where
 /// they are looked up, is used again and again before the next is read, so a piece is small enough that all of it stays in the
 /// processor's nearest cache. Contracts promise no more than 65,536, so that it can change without them.
-const PIECE: usize = 8_192;
+pub(crate) const PIECE: usize = 8_192;
 
-/// A buffer for one read.
-pub(crate) fn buffer(alloc: Global) -> Result<Vec<u8>, NoMemory>
+/// A buffer for one read of so many bytes.
+pub(crate) fn buffer(alloc: Global, size: usize) -> Result<Vec<u8>, NoMemory>
+    requires some { 0 < size }
+    requires few { size ≤ 65536 }
     ensures some { IfOk result (λ v. 0 < vec_len v) }
     ensures few { IfOk result (λ v. vec_len v ≤ 65536) }
 {
-    Ok(vec![in alloc; 0u8; PIECE]?)
+    Ok(vec![in alloc; 0u8; size]?)
 }
 
 /// Reads some bytes through the buffer, and none only at the end.
@@ -67,7 +69,7 @@ pub fn load<S: Shelf>(
     // Why not.
     ensures stop { IfErr result (LoadStops S.Shelf shelf.old shelf.new name.now) }
 {
-    let mut buf = buffer(alloc)?;
+    let mut buf = buffer(alloc, PIECE)?;
     shelf.find(name.copy()?)?;
     let mut bytes = Vec::new(alloc);
     let mut room = limit as usize + 1;

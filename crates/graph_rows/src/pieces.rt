@@ -1,25 +1,50 @@
 //! A graph, read piece by piece: from a shelf's file to rows and names, numbered as they come; or what stopped it.
 
-ghost use Rattle.std.specs.Prelude.{◌≡◌, ◌+◌, ◌<◌, ◌≤◌, ◌^◌, [], length, vec_len, IsOk};
+ghost use Rattle.std.specs.Prelude.{◌≡◌, ◌+◌, ◌<◌, ◌≤◌, ◌^◌, ℕ, List, [], ◌++◌, length, vec_len, IsOk, IfErr, Err};
+ghost use Rattle.gk_base.specs.declared.term.Triple.{Triple as AnyTriple};
+ghost use Rattle.nt_reader.specs.File.{IsOpen};
 ghost use Rattle.nt_reader.specs.Kept.{HasRead};
 ghost use Rattle.graph_rows.specs.Rows.{GoOn, LeaveRoom};
 ghost use Rattle.graph_rows.specs.GraphFile.{GivesRows, GivesMoreRows};
 ghost use Rattle.graph_rows.specs.Feeding.{FeedsNext, FeedsAll, ReadsBehind};
 
-use crate::batches::feed_in_batches;
-use crate::loading::buffer;
+use crate::batches::{feed_in_batches, feed_with_second};
+use crate::loading::{PIECE, buffer};
 use crate::rows::Rows;
-use gk_base::{Limits, ReadRefusal, Text};
+use crate::second_reader::{LARGE_PIECE, SecondReader, feed_in_parts};
+use gk_base::{Limits, ReadRefusal, ReadStop, Text};
 use gk_io::{FileStop, Shelf, file_stop};
 use nt_reader::Reader;
 use std::alloc::Global;
+use std::sync::Wait;
 use std::thread::Threads;
 use term_list::Triples;
 
+/// Feeds a piece, with a second thread that reads where there is one.
+fn feed<R: Wait>(
+    rt: &R,
+    second: &mut Option<SecondReader>,
+    reader: &mut Reader,
+    piece: &[u8],
+) -> Result<(), ReadStop>
+    ensures limits { reader.new.limits ≡ reader.old.limits }
+    ensures read { (taken : List AnyTriple) (seen : List ℕ) → HasRead reader.old taken seen → HasRead reader.new taken (seen ++ piece.now) }
+    ensures open { IsOk result → (taken : List AnyTriple) (seen : List ℕ) → HasRead reader.old taken seen → IsOpen reader.old.limits (seen ++ piece.now) }
+    ensures running { IsOk result → IsOk reader.old.so_far × IsOk reader.new.so_far }
+    ensures err { IfErr result (λ stop. reader.new.so_far ≡ Err stop) }
+{
+    match second {
+        Some(second) => feed_in_parts(rt, second, reader, piece),
+        None => reader.feed(piece),
+    }
+}
+
 /// Reads the next piece and feeds it, and answers how many bytes it has: none only at the end.
-pub(crate) fn feed_next<S: Shelf>(
+pub(crate) fn feed_next<S: Shelf, R: Wait>(
+    rt: &R,
     shelf: &mut S,
     buf: &mut [u8],
+    second: &mut Option<SecondReader>,
     reader: &mut Reader,
 ) -> Result<usize, FileStop<ReadRefusal>>
     requires { 0 < length buf.old }
@@ -29,7 +54,7 @@ pub(crate) fn feed_next<S: Shelf>(
     ensures feeds { FeedsNext S.Shelf shelf.old shelf.new (length buf.old) reader.old reader.new result }
 {
     let count = shelf.read(buf)?;
-    reader.feed(&buf[..count]).map_err(file_stop)?;
+    feed(rt, second, reader, &buf[..count]).map_err(file_stop)?;
     Ok(count)
 }
 
@@ -44,7 +69,7 @@ pub struct MoreRows {
 
 /// Reads on to the end of the file. Each piece is fed, and the triples that it ends are numbered behind those that are there,
 /// before the next is read. They pass through the one list of triples.
-fn feed_all<S: Shelf, R: Threads + Sync>(
+fn feed_all<S: Shelf, R: Threads + Wait + Sync>(
     rt: &R,
     shelf: &mut S,
     buf: &mut [u8],
@@ -63,7 +88,7 @@ fn feed_all<S: Shelf, R: Threads + Sync>(
     ensures feeds { FeedsAll S.Shelf shelf.old shelf.new reader.old.limits reader.new (GoOn rows.old rows.new) result }
 {
     'pieces: loop {
-        let count = feed_next(shelf, buf, reader)?;
+        let count = feed_next(rt, shelf, buf, &mut None, reader)?;
         reader.take_triples(triples);
         rows.add(rt, 1, triples)?;
         if count == 0 {
@@ -74,8 +99,9 @@ fn feed_all<S: Shelf, R: Threads + Sync>(
 
 /// Reads on to the end of the file, and numbers the triples behind those that are there: beside each other where two threads
 /// may be used, and else by turns.
-fn feed_file<S: Shelf, R: Threads + Sync>(
+fn feed_file<S: Shelf, R: Threads + Wait + Sync>(
     rt: &R,
+    alloc: Global,
     threads: u32,
     shelf: &mut S,
     buf: &mut Vec<u8>,
@@ -94,15 +120,17 @@ fn feed_file<S: Shelf, R: Threads + Sync>(
     ensures limits { reader.new.limits ≡ reader.old.limits }
     ensures feeds { FeedsAll S.Shelf shelf.old shelf.new reader.old.limits reader.new (GoOn rows.old rows.new) result }
 {
-    if threads > 1 {
-        feed_in_batches(rt, threads, shelf, buf, reader, triples, rows)
+    if threads > 2 {
+        feed_with_second(rt, alloc, threads, shelf, buf, reader, triples, rows)
+    } else if threads == 2 {
+        feed_in_batches(rt, threads, shelf, buf, &mut None, reader, triples, rows)
     } else {
         feed_all(rt, shelf, buf, reader, triples, rows)
     }
 }
 
 /// Finds the file of this name, reads it to its end, and numbers its triples behind those that are there.
-fn read_behind<S: Shelf, R: Threads + Sync>(
+fn read_behind<S: Shelf, R: Threads + Wait + Sync>(
     rt: &R,
     alloc: Global,
     threads: u32,
@@ -116,13 +144,14 @@ fn read_behind<S: Shelf, R: Threads + Sync>(
     ensures held { S.held shelf.new ≡ S.held shelf.old }
     ensures reads { ReadsBehind S.Shelf shelf.old shelf.new limits.now name.now rows.old rows.new result }
 {
-    let mut buf = buffer(alloc)?;
+    let mut buf = buffer(alloc, if threads > 2 { LARGE_PIECE } else { PIECE })?;
     shelf.find(name.copy()?)?;
     let mut reader = Reader::new(alloc, limits);
     rows.expect(shelf.size_hint());
     let mut triples = Triples::new(alloc);
     feed_file(
         rt,
+        alloc,
         threads,
         shelf,
         &mut buf,
@@ -138,14 +167,14 @@ fn read_behind<S: Shelf, R: Threads + Sync>(
 /// The rows and names of the graph of this name. The file is read piece by piece, and no further once it is refused: of the
 /// limits, those of bytes and of triples count.
 ///
-/// `threads` says how many threads may be used, the caller's among them. With 2 or more, the others look up and number the
-/// triples of some pieces while the caller's reads and judges the next ones; with fewer, all is done on the caller's. The answer, and how
-/// far the file is read where it is refused, are the same.
+/// `threads` says how many threads may be used, the caller's among them. With 2 or more, the triples of some pieces are looked
+/// up and numbered while the next ones are read and judged; with 3 or more, two threads read and judge. With fewer, all is done
+/// on the caller's. The answer, and how far the file is read where it is refused, are the same.
 ///
 /// - `NoMemory` may come at any time, and says nothing of the file.
 /// - `FileFault::Failed`: the shelf could not find the file, or could not read it to its end.
 /// - `FileFault::Refused`: the first line that is faulty or beyond a limit, and why.
-pub fn read_rows<S: Shelf, R: Threads + Sync>(
+pub fn read_rows<S: Shelf, R: Threads + Wait + Sync>(
     rt: &R,
     alloc: Global,
     threads: u32,
@@ -168,7 +197,7 @@ pub fn read_rows<S: Shelf, R: Threads + Sync>(
 /// that are there they may be no more than a graph may have.
 ///
 /// What stops it is what stops `read_rows`, and the rows that were there are gone then.
-pub fn read_more_rows<S: Shelf, R: Threads + Sync>(
+pub fn read_more_rows<S: Shelf, R: Threads + Wait + Sync>(
     rt: &R,
     alloc: Global,
     threads: u32,
