@@ -20,6 +20,9 @@ use std::sync::Wait;
 use std::thread::Threads;
 use term_list::Triples;
 
+/// Files that are said to have fewer bytes are read by one thread, which takes no longer than the start of another.
+const LEAST_SHARED: u64 = 1 << 20;
+
 /// Feeds a piece, with a second thread that reads where there is one.
 fn feed<R: Wait>(
     rt: &R,
@@ -97,6 +100,11 @@ fn feed_all<S: Shelf, R: Threads + Wait + Sync>(
     }
 }
 
+/// Whether a file of about so many bytes, or of an unknown number where it is 0, is worth the start of a second thread that reads.
+fn is_worth_sharing(bytes: u64) -> bool {
+    bytes == 0 || bytes >= LEAST_SHARED
+}
+
 /// Reads on to the end of the file, and numbers the triples behind those that are there: beside each other where two threads
 /// may be used, and else by turns.
 fn feed_file<S: Shelf, R: Threads + Wait + Sync>(
@@ -120,9 +128,9 @@ fn feed_file<S: Shelf, R: Threads + Wait + Sync>(
     ensures limits { reader.new.limits ≡ reader.old.limits }
     ensures feeds { FeedsAll S.Shelf shelf.old shelf.new reader.old.limits reader.new (GoOn rows.old rows.new) result }
 {
-    if threads > 2 {
+    if threads > 2 && is_worth_sharing(shelf.size_hint()) {
         feed_with_second(rt, alloc, threads, shelf, buf, reader, triples, rows)
-    } else if threads == 2 {
+    } else if threads > 1 {
         feed_in_batches(rt, threads, shelf, buf, &mut None, reader, triples, rows)
     } else {
         feed_all(rt, shelf, buf, reader, triples, rows)
