@@ -20,7 +20,8 @@ use std::sync::Wait;
 use std::thread::Threads;
 use term_list::Triples;
 
-/// Files that are said to have fewer bytes are read by one thread, which takes no longer than the start of another.
+/// Files that are said to have fewer bytes are read by one thread, since there is little to save. Where the bound lies best was
+/// not measured.
 const LEAST_SHARED: u64 = 1 << 20;
 
 /// Feeds a piece, with a second thread that reads where there is one.

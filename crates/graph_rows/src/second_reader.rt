@@ -1,7 +1,8 @@
 //! A second thread that reads and judges. Each piece is cut into parts, of whole lines as far as it has them, and each part into a
 //! front and a rear. While the caller's thread feeds a front to its reader, the second feeds rears to readers of their own, which
-//! are then joined to the caller's. The caller never waits long for it, and feeds a rear itself where no reader of it has come:
-//! where there is no thread, or no processor for it, reading takes as long as by one.
+//! are then joined to the caller's. While it reads, the caller waits for it no longer than some looks, and feeds a rear itself where
+//! no reader of it has come: where there is no thread, or no processor for it, one reads all. At the end of the file it waits
+//! until the other has ended.
 
 ghost use Rattle.std.specs.Prelude.{◌≡◌, ◌≤◌, ◌<◌, ◌+◌, ℕ, List, [], ◌++◌, length, IsOk, IfErr, IfSome, Err};
 ghost use Rattle.gk_base.specs.declared.term.Triple.{Triple as AnyTriple};

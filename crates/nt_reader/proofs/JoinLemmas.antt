@@ -64,7 +64,7 @@ pub stands_joined : (limits others : Limits) (old more new : State) (taken : Lis
     → CanJoin limits (front_of old) (front_of more) → new.triples ≡ old.triples ++ more.triples → new.kept.items ≡ old.kept.items ++ more.kept.items → new.bytes ≡ old.bytes + more.bytes
     → new.line ≡ old.line + (more.line - 1) → new.after_return ≡ more.after_return → new.room ≡ old.room → IsFrontOf limits (front_of new) taken (seen ++ bytes)
 stands_joined limits others old more new taken seen bytes s m can triples kept count line returned room =
-    after limits new taken (seen ++ bytes) _ (cut_joined seen bytes (sym s.rest ∙ can.begins) (sym s.returned ∙ can.ended))
+    after limits new taken (seen ++ bytes) _ (cut_joined seen bytes (sym s.rest ∙ can.begins) (sym s.returned ∙ can.unreturned))
     (omega (arith, count, s.count, m.count, length-append seen bytes)) (omega (arith, s.count, m.count, can.bytes, length-append seen bytes))
     (kept ∙ ap (λ (l : List ℕ). l ++ more.kept.items) can.begins ∙ m.rest)
     (omega (arith, line, s.line, m.line, length-append (cut_of seen).ended (cut_of bytes).ended)) (returned ∙ m.returned)

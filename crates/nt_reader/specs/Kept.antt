@@ -42,6 +42,6 @@ FinishSays limits taken bytes (Err refusal) = FileSays limits bytes (Err refusal
 -- limits: no line has begun there, and no carriage return came last, to which a line feed would belong
 pub record CanJoin (limits : Limits) (front more : Front) : Type 0 where
   pub begins : front.rest ≡ []
-  pub ended : front.returned ≡ false
+  pub unreturned : front.returned ≡ false
   pub bytes : front.bytes + more.bytes ≤ limits.bytes
   pub triples : length front.triples + length more.triples ≤ front.room

@@ -110,7 +110,7 @@ impl Reader {
         // Nothing that was read by then is refused.
         ensures open { result ≡ Ok true → (taken : List Triple) (seen bytes : List ℕ) → HasRead self.old taken seen → HasRead other.now [] bytes →
             IsOpen self.old.limits (seen ++ bytes) }
-        // Neither of them had failed, and it has not either.
+        // It had not failed, and has not now.
         ensures running { result ≡ Ok true → IsOk self.old.so_far × IsOk self.new.so_far }
         ensures same { result ≡ Ok false → self.new ≡ self.old }
         // It does so wherever it can.

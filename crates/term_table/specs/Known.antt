@@ -9,7 +9,7 @@ use Rattle.term_table.specs.Numbering.{with_terms, AreDistinct}
 abbrev pub IsKnown : (names terms : List Term) (at : ℕ) → Known → Type 0
 IsKnown names terms at (Before first) = (first < at) × (slice_get terms first ≡ slice_get terms at)
 IsKnown names terms at (Named number) = slice_get names number ≡ slice_get terms at
-IsKnown names terms at Unknown = Unit {0}
+IsKnown names terms at (Unknown hash) = Unit {0}
 
 -- this is known of the terms from one place on, and is so
 pub record AreKnown (names terms : List Term) (start : ℕ) (known : List Known) : Type 0 where

@@ -99,10 +99,11 @@ impl Ahead {
             if (first as usize) < at {
                 known.push(Known::Before(first))?;
             } else {
-                known.push(Known::Unknown)?;
+                let hash = hasher.hash_of(&terms.get(at));
+                known.push(Known::Unknown(hash))?;
                 self.look_ups.push(LookUp {
                     at: at as u32,
-                    found: hasher.hash_of(&terms.get(at)),
+                    found: hash,
                 })?;
             }
         }
@@ -128,6 +129,27 @@ impl Ahead {
         }
     }
 
+    // Asks the table for all terms that are to be looked up, as one group, and notes which are names.
+    fn look_up(
+        &mut self,
+        marks: &Marks,
+        names: &Terms,
+        terms: &Terms,
+        start: usize,
+        known: &mut [Known],
+    )
+        requires { AreKnown names.now terms.now start known.old }
+        ensures known { AreKnown names.now terms.now start known.new }
+        ensures one_each { length known.new ≡ length known.old }
+    {
+        for look_up in &mut self.look_ups {
+            look_up.found = marks.place_with(look_up.found);
+        }
+        keep_like(names, terms, &mut self.look_ups, are_as_long);
+        keep_like(names, terms, &mut self.look_ups, end_alike);
+        self.note_same(names, terms, start, known);
+    }
+
     /// Looks at the next terms of a list, up to one place. `known` says what is known of those from `start` on that were looked
     /// at before, and gets what is known of the others behind it. The table is asked for them as one group.
     pub(crate) fn look(
@@ -147,12 +169,40 @@ impl Ahead {
         ensures one_each { OnOk result (length known.new.items ≡ end - start) }
     {
         self.look_back(marks.hasher(), terms, start, end, known)?;
-        for look_up in &mut self.look_ups {
-            look_up.found = marks.place_with(look_up.found);
+        self.look_up(marks, names, terms, start, known);
+        Ok(())
+    }
+
+    /// Looks once more at terms of a list, from `start` on, of which this was known earlier: at the unknown ones, since more terms may
+    /// be names by now. `known` gets what is known of all of them. Those that are still unknown are new, but for few, and what is
+    /// touched where they become names has been fetched then.
+    pub(crate) fn look_again(
+        &mut self,
+        marks: &Marks,
+        names: &Terms,
+        terms: &Terms,
+        start: usize,
+        earlier: &[Known],
+        known: &mut Vec<Known>,
+    ) -> Result<(), NoMemory>
+        requires within { start + length earlier.now ≤ length terms.now }
+        requires few { length terms.now < 2 ^ 32 }
+        requires earlier { AreKnown names.now terms.now start earlier.now }
+        ensures known { OnOk result (AreKnown names.now terms.now start known.new.items) }
+        ensures one_each { OnOk result (length known.new.items ≡ length earlier.now) }
+    {
+        self.look_ups.clear();
+        for k in 0..earlier.len() {
+            if let Known::Unknown(hash) = earlier[k] {
+                self.look_ups.push(LookUp {
+                    at: (start + k) as u32,
+                    found: hash,
+                })?;
+            }
         }
-        keep_like(names, terms, &mut self.look_ups, are_as_long);
-        keep_like(names, terms, &mut self.look_ups, end_alike);
-        self.note_same(names, terms, start, known);
+        known.clear();
+        known.extend_from_slice(earlier)?;
+        self.look_up(marks, names, terms, start, known);
         Ok(())
     }
 }

@@ -7,6 +7,7 @@ pub enum Known {
     Before(u32),
     /// It is the name with this number.
     Named(u32),
-    /// Neither is known. It may be a name all the same.
-    Unknown,
+    /// Neither is known. It may be a name all the same. The number is where a look-up of it begins, of which nothing is said: only
+    /// speed rests on it.
+    Unknown(u32),
 }

@@ -142,7 +142,7 @@ impl Names {
             let number = match known[k] {
                 Known::Before(first) => numbers[first as usize],
                 Known::Named(number) => number,
-                Known::Unknown => self.intern_lent(&terms.get(numbers.len()))?,
+                Known::Unknown(_) => self.intern_lent(&terms.get(numbers.len()))?,
             };
             numbers.push(number)?;
         }
@@ -175,7 +175,7 @@ impl Names {
     }
 
     /// The same. `threads` says how many threads may be used, the caller's among them. Where there are many terms, they all look
-    /// terms up before the caller's numbers those that are no names yet; the answer is the same.
+    /// them up before the caller's numbers them; the answer is the same.
     pub fn intern_all_in_threads<R: Threads + Sync>(
         &mut self,
         rt: &R,
@@ -204,8 +204,38 @@ impl Names {
             0,
             count,
         )?;
-        let mut numbers = Vec::with_capacity(alloc, count)?;
-        self.number_known(terms, &known, &mut numbers)?;
+        self.number_in_groups(terms, &known)
+    }
+
+    // The numbers of these terms, of which this is known, a group after another. The unknown ones of a group are looked up once more
+    // before that: some have become names meanwhile, and what the others are put into has been fetched for all of them at once.
+    fn number_in_groups(&mut self, terms: &Terms, known: &[Known]) -> Result<Vec<u32>, NoMemory>
+        requires one_each { length known.now ≡ length terms.now }
+        requires room { length self.old + length terms.now < 2 ^ 32 }
+        requires known { AreKnown self.old terms.now 0 known.now }
+        ensures numbers { IfOk result (λ numbers. numbers.items ≡ map (place_of self.new) terms.now) }
+        ensures ok { OnOk result (self.new ≡ with_terms self.old terms.now) }
+        ensures err { OnErr result (HasTakenSome self.old terms.now self.new) }
+        ensures distinct { AreDistinct self.new }
+    {
+        let alloc = self.alloc;
+        let mut ahead = Ahead::new(alloc);
+        let mut of_group = Vec::with_capacity(alloc, GROUP)?;
+        let mut numbers = Vec::with_capacity(alloc, terms.len())?;
+        'groups: while numbers.len() < terms.len() {
+            let start = numbers.len();
+            let end = terms.len().min(start + GROUP);
+            let earlier = &known[start..end];
+            ahead.look_again(
+                &self.marks,
+                &self.terms,
+                terms,
+                start,
+                earlier,
+                &mut of_group,
+            )?;
+            self.number_known(terms, &of_group, &mut numbers)?;
+        }
         Ok(numbers)
     }
 
