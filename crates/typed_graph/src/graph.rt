@@ -12,8 +12,8 @@ ghost use Rattle.typed_graph.specs.Types.{AreTypes, IsTrueOf};
 
 use crate::Index;
 use crate::ascending::holds;
-use crate::orders::{SortedRows, both_orders, sort_forward};
-use crate::rows::turn;
+use crate::orders::{SortedRows, both_orders, index_forward};
+use crate::rows::{sorted, turn};
 use crate::types::TypesOf;
 use chase_laws::Slot;
 use gk_base::NoMemory;
@@ -113,14 +113,14 @@ impl Graph {
         ensures rdf_type { IfOk result (λ g. g.rdf_type ≡ rdf_type) }
         ensures alike { IfOk result (λ g. g.alike ≡ alike.items) }
     {
-        let sorted = sort_forward(alloc, rows, names, rdf_type)?;
-        let backward = Index::build(alloc, turn(alloc, &sorted.rows)?, names)?;
-        Ok(assembled(sorted, backward, literal, rdf_type, alike))
+        let forward = index_forward(alloc, sorted(rows), names, rdf_type)?;
+        let backward = Index::build(alloc, turn(alloc, &forward.rows)?, names)?;
+        Ok(assembled(forward, backward, literal, rdf_type, alike))
     }
 
     /// Does what `build` does by so many threads, the caller's among them. With 2 or more, one order of the rows is made in a
-    /// new thread and sorted in several, unless there are few rows; where none can be started, the caller's makes both. The graph
-    /// is the same.
+    /// new thread and each is sorted in several, unless there are few rows; where none can be started, the caller's makes
+    /// both. The graph is the same.
     pub fn build_in_threads<R: Threads + Sync>(
         rt: &R,
         alloc: Global,

@@ -9,7 +9,7 @@ ghost use Rattle.typed_graph.specs.Types.{AreTypes};
 ghost use Rattle.typed_graph.specs.Blocks.{turned};
 
 use crate::Index;
-use crate::rows::{sorted, three_each, turn};
+use crate::rows::{sorted_in_threads, three_each, turn};
 use crate::types::{TypesOf, types_of_all};
 use gk_base::NoMemory;
 use std::alloc::Global;
@@ -26,21 +26,20 @@ pub(crate) struct SortedRows {
     pub types: Vec<TypesOf>,
 }
 
-/// Sorts rows, which may come in any order and with repeats, and makes their index by subjects.
-pub(crate) fn sort_forward(
+/// Makes the index by subjects of rows in order, and what is kept of each name's types.
+pub(crate) fn index_forward(
     alloc: Global,
     rows: Vec<[u32; 3]>,
     names: u32,
     rdf_type: Option<u32>,
 ) -> Result<SortedRows, NoMemory>
+    requires ascending { IsStrictlySortedBy (slice_cmp nat_cmp) rows.items }
+    requires three { All (λ row. length row ≡ 3) rows.items }
     requires named { All (λ row. All (λ n. n < names) row) rows.items }
-    ensures ascending { IfOk result (λ o. IsStrictlySortedBy (slice_cmp nat_cmp) o.rows.items) }
-    ensures three { IfOk result (λ o. All (λ row. length row ≡ 3) o.rows.items) }
-    ensures same { IfOk result (λ o. (row : List ℕ) → Contains o.rows.items row ↔ Contains rows.items row) }
+    ensures rows { IfOk result (λ o. o.rows.items ≡ rows.items) }
     ensures forward { IfOk result (λ o. (n p c : ℕ) → TableHas o.forward n p c ↔ Contains o.rows.items (n ∷ p ∷ c ∷ [])) }
     ensures types { IfOk result (λ o. AreTypes o.forward rdf_type names o.types.items) }
 {
-    let rows = sorted(rows);
     let forward = Index::from_sorted(alloc, &rows, names)?;
     let types = types_of_all(alloc, &forward, rdf_type, names)?;
     Ok(SortedRows {
@@ -50,7 +49,7 @@ pub(crate) fn sort_forward(
     })
 }
 
-/// Both orders at once: the index by objects is made in a new thread, if one can be started, and sorted in several.
+/// Both orders at once, each sorted in several threads: the index by objects is made in a new thread, if one can be started.
 pub(crate) fn both_orders<R: Threads + Sync>(
     rt: &R,
     alloc: Global,
@@ -81,7 +80,7 @@ pub(crate) fn both_orders<R: Threads + Sync>(
             ensures same { IfOk result (λ o. (row : List ℕ) → Contains o.rows.items row ↔ Contains rows.items row) }
             ensures forward { IfOk result (λ o. (n p c : ℕ) → TableHas o.forward n p c ↔ Contains o.rows.items (n ∷ p ∷ c ∷ [])) }
             ensures types { IfOk result (λ o. AreTypes o.forward rdf_type names o.types.items) }
-        { sort_forward(alloc, rows, names, rdf_type) },
+        { index_forward(alloc, sorted_in_threads(rt, rows), names, rdf_type) },
     );
     Ok((forward?, backward?))
 }

@@ -10,7 +10,7 @@ flip f = (f.1, f.0)
 pub join-backward-requires-after_bounds : goal.join-backward-requires-after_bounds
 join-backward-requires-after_bounds g c κs within =
     let e : c.in_ok-other_way.other_way.items ≡ map turned c.args.rows.items = c.in_ok-other_way.ensures ∙ ap (map turned) c.deref-2.ensures.value in
-    ((rw e (turned_firsts c.args.rows.items c.args.names (rw (sym c.deref.ensures.value) c.three_each.ensures) c.requires.named), record { shared = c.type_bounds.sync-R.shared }), c.requires.named)
+    ((rw e (turned_firsts c.args.rows.items c.args.names (rw (sym c.deref.ensures.value) c.three_each.ensures) c.requires.named), record { shared = c.type_bounds.sync-R.shared }), (c.requires.named, record { shared = c.type_bounds.sync-R.shared }))
 
 pub returns-clause-backward : goal.returns-clause-backward
 returns-clause-backward g c = λ n p m.
