@@ -14,7 +14,7 @@ returns-clause-ascending g c =
 
 pub returns-clause-three : goal.returns-clause-three
 returns-clause-three g c =
-    let long : All (λ (row : List ℕ). length row ≡ 3) c.sort_in_threads.new.rows.items = All-permutation (λ (row : List ℕ). length row ≡ 3) _ _ c.sort_in_threads.ensures.permutation (subst (All (λ (row : List ℕ). length row ≡ 3)) c.deref.ensures.value c.three_each.ensures) in
+    let long : All (λ (row : List ℕ). length row ≡ 3) c.sort_in_threads.new.rows.items = All-permutation (λ (row : List ℕ). length row ≡ 3) _ _ c.sort_in_threads.ensures.permutation (subst (All (λ (row : List ℕ). length row ≡ 3)) c.deref-2.ensures.value c.three_each.ensures) in
     rw (dedup_is _ _ _ c.dedup.ensures.filtered) (All-dedup (pointwise nat_eq) (λ (row : List ℕ). length row ≡ 3) _ long)
 
 pub returns-clause-same : goal.returns-clause-same
