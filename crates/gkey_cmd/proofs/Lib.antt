@@ -13,3 +13,4 @@ mod MergedOutput
 mod WholeWords
 mod Finding
 mod Reasons
+mod LastCalls

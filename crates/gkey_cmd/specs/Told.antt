@@ -1,11 +1,11 @@
--- The text of a proof that a finished chase was made into: this project's own words.
+-- The texts that a finished chase is made into: this project's own words.
 use Rattle.std.specs.Prelude.{List, ℕ, true, All, map, length, Ok, ◌≡◌, ◌≤◌}
 use Rattle.gk_base.specs.declared.term.Term.{Term}
 use Rattle.chase_laws.specs.declared.entry.Entry.{Entry}
 use Rattle.chase_laws.specs.Shape.{Shape}
 use Rattle.chase_laws.specs.Graph.{NumberedGraph}
 use Rattle.chase_laws.specs.Joined.{links}
-use Rattle.match_run.specs.Classes.{IsFinishedJournal}
+use Rattle.match_run.specs.Classes.{AreClasses, IsFinishedJournal}
 use Rattle.term_table.specs.Numbering.{place_of}
 use Rattle.proof_graph.specs.Steps.{StepShape, term_at}
 use Rattle.proof_graph.specs.Tells.{TellsAll}
@@ -13,6 +13,10 @@ use Rattle.proof_graph.specs.ProofText.{ProofSays}
 use Rattle.proof_graph.specs.CanonicalProof.{proof_text}
 use Rattle.key_file.specs.Name.{is_name}
 use Rattle.term_text.specs.ReadBack.{CanBeSpelled}
+use Rattle.demo_graph.specs.Counts.{IsMemberCount, IsClassCount}
+use Rattle.demo_graph.specs.DemoLine.{demo_line_text}
+use Rattle.merge_graph.specs.MergedGraph.{same_label, triple_at, IsSortedText, AreApart}
+use Rattle.merge_graph.specs.Saying.{CanBeSaid, IsReadAsMerged}
 
 -- the numbers of the two terms that a step makes the same
 abbrev pub step_link : List Term → StepShape → ℕ × ℕ
@@ -28,3 +32,20 @@ pub record TellsJournal (G : NumberedGraph) (K : List Shape) (names : List Term)
   pub ends : map (step_link names) steps ≡ links journal
   pub written : text ≡ proof_text steps
   pub reads : All CanBeSpelled names → All (λ name. is_name name ≡ true) key_names → (limit : ℕ) → length text ≤ limit → ProofSays limit text (Ok steps)
+
+-- The line has two numbers that were given, and the counts of labels that are the classes.
+pub record TellsCounts (G : NumberedGraph) (K : List Shape) (triples pairs : ℕ) (line : List ℕ) : Type 0 where
+  pub labels : List ℕ
+  pub classes : AreClasses G K labels
+  pub class_count : ℕ
+  pub member_count : ℕ
+  pub class_number : IsClassCount labels class_count
+  pub member_number : IsMemberCount labels member_count
+  pub written : line ≡ demo_line_text triples pairs class_count member_count
+
+-- The text is that of the graph merged by labels that are the classes. Where it can be said, it is read as that graph.
+pub record TellsMerged (G : NumberedGraph) (K : List Shape) (names : List Term) (text : List ℕ) : Type 0 where
+  pub labels : List ℕ
+  pub classes : AreClasses G K labels
+  pub unmerged : AreApart labels → IsSortedText (map (triple_at names) G.rows) text
+  pub read_back : CanBeSaid names G.rows labels → IsReadAsMerged names G.rows (same_label labels) text

@@ -1,14 +1,17 @@
 //! What `demo` prints: how many triples, candidate pairs, classes and members there are, from the rows of the graph and the
 //! keys.
 
-ghost use Rattle.std.specs.Prelude.{◌<◌, ◌≤◌, ◌^◌, List, IfOk, IfErr, OnOk};
+ghost use Rattle.std.specs.Prelude.{◌≡◌, ◌<◌, ◌≤◌, ◌^◌, List, IfOk, IfErr, OnOk};
+ghost use Rattle.gk_base.specs.declared.stop.Stop.TheVariants as stop;
 ghost use Rattle.gk_base.specs.declared.term.Triple.{Triple as AnyTriple};
 ghost use Rattle.graph_rows.specs.Rows.{StandFor, AreFew};
 ghost use Rattle.gkey_cmd.specs.Matched.{HasTooManyPairs};
 ghost use Rattle.gkey_cmd.specs.Demo.{IsDemoText};
+ghost use Rattle.gkey_cmd.specs.Told.{TellsCounts};
 ghost use Rattle.gkey_cmd.specs.ChaseEnds.{IsRightChaseStop, DemoEnds};
 
 use crate::ending::{Ending, Refusal};
+use chase_core::Setup;
 use chase_laws::laws::law_rows;
 use demo_graph::{count_classes, demo_line};
 use gk_base::Stop;
@@ -20,6 +23,27 @@ use std::alloc::Global;
 use std::sync::Wait;
 use std::thread::Threads;
 use steal_pool::Gate;
+
+/// The line with the two numbers and the counts of a setup's classes, by a chase with so many workers, which pass the gate
+/// before each search. Only want of memory stops it.
+fn line_over<Rt: Threads + Wait + Sync, G: Gate>(
+    rt: &Rt,
+    alloc: Global,
+    setup: &Setup,
+    triples: u64,
+    pairs: u64,
+    workers: u32,
+    gate: &G,
+) -> Result<Vec<u8>, SeedStop>
+    requires workers { (0 < workers) × (workers ≤ 64) }
+    ensures told { IfOk result (λ line. TellsCounts setup.now.task.graph setup.now.task.patterns triples pairs line.items) }
+    ensures stop { IfErr result (λ e. e ≡ stop.NoMemory) }
+{
+    let _names = setup.graph().names();
+    let matched = chase_setup(rt, alloc, setup, workers, gate)?;
+    let counts = count_classes(alloc, &matched.labels)?;
+    Ok(demo_line(alloc, triples, pairs, counts)?)
+}
 
 /// The line of all counts, by a chase with so many workers, which pass the gate before each search.
 ///
@@ -42,13 +66,17 @@ fn line_of<Rt: Threads + Wait + Sync, G: Gate>(
 {
     law_rows();
     let numbered = number(rt, alloc, workers, rows, keys)?;
-    let _names = numbered.graph.names();
     let triples = numbered.graph.rows().len() as u64;
     let prepared = prepare(rt, alloc, workers, numbered.graph, numbered.patterns, limit)?;
-    let matched = chase_setup(rt, alloc, &prepared.setup, workers, gate)?;
-    let counts = count_classes(alloc, &matched.labels)?;
-    let line = demo_line(alloc, triples, prepared.seeded, counts)?;
-    Ok(line)
+    line_over(
+        rt,
+        alloc,
+        &prepared.setup,
+        triples,
+        prepared.seeded,
+        workers,
+        gate,
+    )
 }
 
 /// The line of a demo whose texts are read, or the ending of a run that has none.

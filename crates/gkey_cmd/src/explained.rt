@@ -2,6 +2,7 @@
 //! the keys, and the words for the two.
 
 ghost use Rattle.std.specs.Prelude.{◌≡◌, ◌<◌, ◌≤◌, ◌^◌, List, map, length, IfOk, IfErr, IfSome, IfNone, OnOk};
+ghost use Rattle.gk_base.specs.declared.stop.Stop.TheVariants as stop;
 ghost use Rattle.gk_base.specs.declared.term.Triple.{Triple as AnyTriple};
 ghost use Rattle.chase_laws.specs.Chase.{AreSame};
 ghost use Rattle.key_file.specs.KeyShape.{KeyShape};
@@ -100,6 +101,33 @@ fn pair_text(
     Ok(Some(text))
 }
 
+/// The text of a proof that two names are the same by a setup, and `None` exactly where they are not, by a chase with so many
+/// workers, which pass the gate before each search. Only want of memory stops it.
+fn reason_over<Rt: Threads + Wait + Sync, G: Gate>(
+    rt: &Rt,
+    alloc: Global,
+    setup: &Setup,
+    names: &Names,
+    keys: &[KeyDef],
+    a: u32,
+    b: u32,
+    workers: u32,
+    gate: &G,
+) -> Result<Option<Vec<u8>>, SeedStop>
+    requires named { length setup.now.task.graph.literal ≡ length names.now }
+    requires one_each { length keys.now ≡ length setup.now.task.patterns }
+    requires a { a < length names.now }
+    requires b { b < length names.now }
+    requires workers { (0 < workers) × (workers ≤ 64) }
+    ensures told { IfOk result (λ o. IfSome o (λ text.
+        TellsPair setup.now.task.graph setup.now.task.patterns names.now (map (λ (k : KeyShape). k.name) keys.now) a b text.items)) }
+    ensures apart { IfOk result (λ o. IfNone o (¬ (AreSame setup.now.task.graph setup.now.task.patterns a b))) }
+    ensures stop { IfErr result (λ e. e ≡ stop.NoMemory) }
+{
+    let matched = chase_setup(rt, alloc, setup, workers, gate)?;
+    Ok(pair_text(alloc, setup, &matched.journal, names, keys, a, b)?)
+}
+
 /// The text of a proof that two names are the same, and `None` exactly where they are not, by a chase with so many workers,
 /// which pass the gate before each search.
 ///
@@ -134,10 +162,17 @@ fn reason<Rt: Threads + Wait + Sync, G: Gate>(
         patterns,
     } = numbered;
     let prepared = prepare(rt, alloc, workers, graph, patterns, limit)?;
-    let setup = &prepared.setup;
-    let matched = chase_setup(rt, alloc, setup, workers, gate)?;
-    let text = pair_text(alloc, setup, &matched.journal, &names, keys, a, b)?;
-    Ok(text)
+    reason_over(
+        rt,
+        alloc,
+        &prepared.setup,
+        &names,
+        keys,
+        a,
+        b,
+        workers,
+        gate,
+    )
 }
 
 /// The answer of `why` with its text, or the ending of a run that has none, once its files are read. The first word is looked

@@ -1,13 +1,16 @@
 //! What `merge` prints: the graph in which each entity stands as the first member of its class, from the rows of the graph
 //! and the keys.
 
-ghost use Rattle.std.specs.Prelude.{◌<◌, ◌≤◌, ◌^◌, List, IfOk, IfErr, OnOk};
+ghost use Rattle.std.specs.Prelude.{◌≡◌, ◌<◌, ◌≤◌, ◌^◌, List, length, IfOk, IfErr, OnOk};
+ghost use Rattle.gk_base.specs.declared.stop.Stop.TheVariants as stop;
 ghost use Rattle.gk_base.specs.declared.term.Triple.{Triple as AnyTriple};
 ghost use Rattle.graph_rows.specs.Rows.{StandFor, AreFew};
 ghost use Rattle.gkey_cmd.specs.Matched.{HasTooManyPairs};
+ghost use Rattle.gkey_cmd.specs.Told.{TellsMerged};
 ghost use Rattle.gkey_cmd.specs.ChaseEnds.{IsRightChaseStop, IsMergedOfFiles, MergeEnds};
 
 use crate::ending::{Ending, Refusal};
+use chase_core::Setup;
 use chase_laws::laws::{law_entities, law_rows};
 use gk_base::Stop;
 use graph_rows::{Rows, number};
@@ -19,6 +22,28 @@ use std::alloc::Global;
 use std::sync::Wait;
 use std::thread::Threads;
 use steal_pool::Gate;
+use term_table::Names;
+
+/// The text of the merged graph of a setup, by a chase with so many workers, which pass the gate before each search. Only want
+/// of memory stops it.
+fn merged_over<Rt: Threads + Wait + Sync, G: Gate>(
+    rt: &Rt,
+    alloc: Global,
+    setup: &Setup,
+    names: &Names,
+    workers: u32,
+    gate: &G,
+) -> Result<Vec<u8>, SeedStop>
+    requires named { length setup.now.task.graph.literal ≡ length names.now }
+    requires workers { (0 < workers) × (workers ≤ 64) }
+    ensures told { IfOk result (λ text. TellsMerged setup.now.task.graph setup.now.task.patterns names.now text.items) }
+    ensures stop { IfErr result (λ e. e ≡ stop.NoMemory) }
+{
+    let matched = chase_setup(rt, alloc, setup, workers, gate)?;
+    let graph = setup.graph();
+    let text = merge(alloc, names, graph.rows(), &matched.labels)?;
+    Ok(text.into_vec())
+}
 
 /// The text of the merged graph, by a chase with so many workers, which pass the gate before each search.
 ///
@@ -44,10 +69,8 @@ fn merged_text<Rt: Threads + Wait + Sync, G: Gate>(
     let numbered = number(rt, alloc, workers, rows, keys)?;
     let prepared = prepare(rt, alloc, workers, numbered.graph, numbered.patterns, limit)?;
     let setup = &prepared.setup;
-    let matched = chase_setup(rt, alloc, setup, workers, gate)?;
-    let graph = setup.graph();
-    let text = merge(alloc, &numbered.names, graph.rows(), &matched.labels)?;
-    Ok(text.into_vec())
+    let _graph = setup.graph();
+    merged_over(rt, alloc, setup, &numbered.names, workers, gate)
 }
 
 /// The text of a merge whose files are read, or the ending of a run that has none.

@@ -1,6 +1,7 @@
 //! What `prove` prints: a proof of all that is the same, from the rows of the graph and the keys.
 
 ghost use Rattle.std.specs.Prelude.{◌≡◌, ◌<◌, ◌≤◌, ◌^◌, List, map, length, IfOk, IfErr, OnOk};
+ghost use Rattle.gk_base.specs.declared.stop.Stop.TheVariants as stop;
 ghost use Rattle.gk_base.specs.declared.term.Triple.{Triple as AnyTriple};
 ghost use Rattle.key_file.specs.KeyShape.{KeyShape};
 ghost use Rattle.match_run.specs.Classes.{IsFinishedJournal};
@@ -63,6 +64,27 @@ fn journal_text(
     Ok(text)
 }
 
+/// The text of a proof of all that is the same by a setup, by a chase with so many workers, which pass the gate before each
+/// search. Only want of memory stops it.
+fn proof_over<Rt: Threads + Wait + Sync, G: Gate>(
+    rt: &Rt,
+    alloc: Global,
+    setup: &Setup,
+    names: &Names,
+    keys: &[KeyDef],
+    workers: u32,
+    gate: &G,
+) -> Result<Vec<u8>, SeedStop>
+    requires named { length setup.now.task.graph.literal ≡ length names.now }
+    requires one_each { length keys.now ≡ length setup.now.task.patterns }
+    requires workers { (0 < workers) × (workers ≤ 64) }
+    ensures told { IfOk result (λ text. TellsJournal setup.now.task.graph setup.now.task.patterns names.now (map (λ (k : KeyShape). k.name) keys.now) text.items) }
+    ensures stop { IfErr result (λ e. e ≡ stop.NoMemory) }
+{
+    let matched = chase_setup(rt, alloc, setup, workers, gate)?;
+    Ok(journal_text(alloc, setup, &matched.journal, names, keys)?)
+}
+
 /// The text of a proof of all that is the same, by a chase with so many workers, which pass the gate before each search.
 ///
 /// `TooManyPairs` comes exactly where there are more candidate pairs than `limit`, and `NoMemory` where memory ran out.
@@ -87,10 +109,15 @@ fn proof_of<Rt: Threads + Wait + Sync, G: Gate>(
     law_proof();
     let numbered = number(rt, alloc, workers, rows, keys)?;
     let prepared = prepare(rt, alloc, workers, numbered.graph, numbered.patterns, limit)?;
-    let setup = &prepared.setup;
-    let matched = chase_setup(rt, alloc, setup, workers, gate)?;
-    let text = journal_text(alloc, setup, &matched.journal, &numbered.names, keys.keys())?;
-    Ok(text)
+    proof_over(
+        rt,
+        alloc,
+        &prepared.setup,
+        &numbered.names,
+        keys.keys(),
+        workers,
+        gate,
+    )
 }
 
 /// The proof of a chase whose files are read, or the ending of a run that has none.
