@@ -1,13 +1,14 @@
 -- The steps of printing the classes.
-use Rattle.std.proofs.Common.{◌≡◌, ℕ, ◌+◌, ◌<◌, true, false, cond, eqb, List, [], ◌∷◌, ◌++◌, length, get_or, take, drop, Option, None, Some, refl, sym, ap, ◌∙◌, arith, ⊎_elim, append_assoc, true≢false}
+use Rattle.std.proofs.Common.{◌≡◌, ℕ, ◌+◌, ◌<◌, true, false, cond, eqb, List, [], ◌∷◌, ◌++◌, length, get_or, take, drop, Option, None, Some, refl, sym, ap, ◌∙◌, arith, ⊎_elim, append_assoc, append-nil, true≢false}
 use Rattle.std.proofs.lemmas.Bool.{cases_Bool, eqb-true, eq-eqb}
 use Rattle.std.proofs.lemmas.List.{drop_more, take_more, get_or_read, get_or_default}
+use Rattle.std.proofs.Math.Seq.{drop-length}
 use Rattle.std.specs.List.{filter, list_any}
 use Rattle.term_text.specs.Labels.{place_at}
 use Rattle.std.specs.Option.{option_eq}
 use Rattle.term_text.specs.declared.member.Member.{Member}
 use Rattle.term_text.specs.declared.links.Links.{Links}
-use Rattle.term_text.specs.Lines.{has_label, member_in, class_from, rest_text, class_text, lines_after, IsLinked}
+use Rattle.term_text.specs.Lines.{has_label, member_in, class_from, rest_text, class_text, lines_after, lines_from, IsLinked}
 use Rattle.term_text.proofs.Places.{place_splits, place_none, nothing_before, first_found}
 
 abbrev pub nobody : Member
@@ -83,15 +84,25 @@ pub lines_passed : (links : Links) (members : List Member) (p : ℕ) (out whole 
 lines_passed links members p out whole linked l other all =
     ap (λ v. out ++ v) (sym (lines_step members p l ∙ ap (λ b. cond b [] (class_text (class_from members p)) ++ lines_after (take (p + 1) members) (drop (p + 1) members)) (not_first links members p linked l other))) ∙ all
 
+-- the lines of two halves, joined
+pub lines_joined : (members : List Member) (from middle to : ℕ) (low high both : List ℕ) → low ++ lines_from members middle ≡ lines_from members from → high ++ lines_from members to ≡ lines_from members middle → both ≡ low ++ high → both ++ lines_from members to ≡ lines_from members from
+lines_joined members from middle to low high both below above joined =
+    ap (λ v. v ++ lines_from members to) joined
+    ∙ (append_assoc low high (lines_from members to)
+    ∙ (ap (λ v. low ++ v) above ∙ below))
+
+-- the lines from the first place up to the last are all
+pub lines_of_all : (members : List Member) (lines : List ℕ) → lines ++ lines_from members (length members) ≡ lines_from members 0 → lines ≡ lines_after [] members
+lines_of_all members lines all =
+    sym (append-nil lines)
+    ∙ (ap (λ rest. lines ++ lines_after (take (length members) members) rest) (sym (drop-length members)) ∙ all)
+
 -- what the code read, as the links and members say it
 pub link_read : (links : Links) (members : List Member) (k : ℕ) (o p : Option ℕ) → IsLinked links members → k < length members → o ≡ get_or links.next.items k o → o ≡ p → get_or links.next.items k None ≡ p
 link_read links members k o p linked l e is = sym (get_or_read links.next.items k o (omega (arith, linked.count)) e None) ∙ is
 
 pub text_read : (members : List Member) (k : ℕ) (m : Member) (text : List ℕ) → k < length members → text ≡ (get_or members k m).text → text ≡ (member_in members k).text
 text_read members k m text l e = e ∙ ap (λ (v : Member). v.text) (get_or_default members k m nobody l)
-
-pub label_read : (members : List Member) (k : ℕ) (m : Member) → k < length members → m ≡ get_or members k m → m.label ≡ (member_in members k).label
-label_read members k m l e = ap (λ (v : Member). v.label) (get_or_read members k m l e nobody)
 
 pub some_found : (o : Option ℕ) (p : ℕ) → option_eq eqb o (Some p) ≡ true → o ≡ Some p
 some_found None p e = absurd (true≢false (sym e))

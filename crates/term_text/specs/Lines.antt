@@ -1,5 +1,5 @@
 -- The lines of a report, made of members in order (this project's own).
-use Rattle.std.specs.Prelude.{◌≡◌, ℕ, List, [], ◌∷◌, ◌++◌, ◌+◌, ◌<◌, Bool, ◌==◌, filter, length, drop, slice_index_or, if◌then◌else◌, Option, None}
+use Rattle.std.specs.Prelude.{◌≡◌, ℕ, List, [], ◌∷◌, ◌++◌, ◌+◌, ◌<◌, Bool, ◌==◌, filter, length, take, drop, slice_index_or, if◌then◌else◌, Option, None}
 use Rattle.std.specs.List.{list_any, position_from}
 use Rattle.term_text.specs.declared.member.Member.{Member}
 use Rattle.term_text.specs.declared.links.Links.{Links}
@@ -32,6 +32,10 @@ class_text (first ∷ second ∷ others) = first.text ++ rest_text (second ∷ o
 abbrev pub lines_after : List Member → List Member → List ℕ
 lines_after before [] = []
 lines_after before (m ∷ rest) = (if list_any (has_label m.label) before then [] else class_text (m ∷ filter (has_label m.label) rest)) ++ lines_after (before ++ m ∷ []) rest
+
+-- the lines of the classes that begin at a place or behind it
+abbrev pub lines_from : List Member → ℕ → List ℕ
+lines_from members k = lines_after (take k members) (drop k members)
 
 -- the first place from k on at which a member has this label
 abbrev pub place_from : List Member → ℕ → ℕ → Option ℕ

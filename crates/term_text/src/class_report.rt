@@ -18,7 +18,8 @@ use term_table::Names;
 /// The report of the classes of names with equal labels: one line for each class of two or more, with the members'
 /// canonical texts in the order of their bytes and single spaces between them. The lines are in the order of their
 /// first members. A label may be any number; labels below the number of names cost least. `threads` says how many threads may
-/// make the texts, the caller's among them; with two or more all processors may sort them. The report is the same.
+/// make the texts and the lines, the caller's among them; with two or more all processors may sort the texts. The report is
+/// the same.
 pub fn report<R: Threads + Sync>(
     rt: &R,
     alloc: Global,
@@ -49,6 +50,6 @@ fn report_of_members<R: Threads + Sync>(
 {
     sort_by_text(rt, alloc, threads, members)?;
     let links = link(alloc, members, labels)?;
-    let bytes = class_lines(alloc, members, &links)?;
+    let bytes = class_lines(rt, alloc, threads, members, &links)?;
     Ok(Report::from_vec(bytes))
 }
