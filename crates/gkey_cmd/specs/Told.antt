@@ -43,7 +43,8 @@ pub record TellsCounts (G : NumberedGraph) (K : List Shape) (triples pairs : ℕ
   pub member_number : IsMemberCount labels member_count
   pub written : line ≡ demo_line_text triples pairs class_count member_count
 
--- The text is that of the graph merged by labels that are the classes. Where it can be said, it is read as that graph.
+-- By labels that are the classes: where each name is alone in its class, the text is the graph itself, sorted; and where the
+-- text can be said, it is read as the graph that is merged by them.
 pub record TellsMerged (G : NumberedGraph) (K : List Shape) (names : List Term) (text : List ℕ) : Type 0 where
   pub labels : List ℕ
   pub classes : AreClasses G K labels
