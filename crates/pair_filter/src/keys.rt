@@ -12,7 +12,7 @@ ghost use Rattle.pair_filter.specs.Reaching.{IsReach};
 ghost use Rattle.pair_filter.specs.Telling.{IsRuledOut};
 
 use crate::memo::Memo;
-use crate::paired::are_paired_along;
+use crate::paired::unpaired_edge;
 use crate::reach::Reach;
 use chase_laws::{Pattern, Slot};
 use paired_search::KeyRange;
@@ -28,21 +28,30 @@ fn have_type(graph: &Graph, t: u32, a: u32, b: u32) -> bool
     graph.fits_slot(Slot::Entity(t), a) && graph.fits_slot(Slot::Entity(t), b)
 }
 
-/// Whether a key pairs two names to depth 2 which can go together at its first slot.
-fn is_kept_by(graph: &Graph, pattern: &Pattern, a: u32, b: u32) -> bool
+/// Whether a key pairs two names to depth 2 which can go together at its first slot. Its edge at the place `first` is asked
+/// first; where one rules out the two, that is the first from then on.
+fn is_kept_by(graph: &Graph, pattern: &Pattern, first: &mut usize, a: u32, b: u32) -> bool
     requires { PairedHere graph.now pattern.now 0 a b }
     ensures { IsTrue result ↔ ArePairedUnder graph.now pattern.now a b }
 {
     // A fact for the proof: slot 0 is an entity variable.
     let _ = pattern.designated_type();
-    are_paired_along(graph, pattern, None, DEPTH, 0, a, b)
+    match unpaired_edge(graph, pattern, *first, DEPTH, 0, a, b) {
+        Some(place) => {
+            *first = place;
+            false
+        }
+        None => true,
+    }
 }
 
 /// Whether a key pairs two names to depth 2. Where it does not, no two valuations of it at them coincide. `missing` is a
-/// type that one of the two is known to lack: of keys behind one another that designate one type, it is tested once.
+/// type that one of the two is known to lack: of keys behind one another that designate one type, it is tested once. `first`
+/// is the place of the edge that is asked first.
 fn are_paired_by(
     graph: &Graph,
     pattern: &Pattern,
+    first: &mut usize,
     pair: (u32, u32),
     missing: &mut Option<u32>,
 ) -> bool
@@ -59,7 +68,7 @@ fn are_paired_by(
         *missing = Some(designated);
         return false;
     }
-    is_kept_by(graph, pattern, pair.0, pair.1)
+    is_kept_by(graph, pattern, first, pair.0, pair.1)
 }
 
 /// Whether the key at a place pairs two names to depth 2. What is known from pairs before is not asked again, and in a long run of
@@ -87,7 +96,9 @@ fn are_paired_at(
         let _ = pattern.designated_type();
         return known;
     }
-    let paired = are_paired_by(graph, pattern, pair, missing);
+    let mut first = memo.first_edge(key);
+    let paired = are_paired_by(graph, pattern, &mut first, pair, missing);
+    memo.put_first_edge(key, first);
     if reach.is_long {
         memo.learn(graph, patterns, key, pair, paired);
     }

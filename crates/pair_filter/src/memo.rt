@@ -25,6 +25,8 @@ pub(crate) struct Memo {
     /// Of how many names more something may be known.
     room: usize,
     keys: Vec<Peers>,
+    /// Of each key the place of the edge that has ruled out two names last, or 0.
+    first_edges: Vec<usize>,
 }
 
 impl Memo {
@@ -46,7 +48,22 @@ impl Memo {
             names,
             room: pairs.saturating_mul(NAMES_A_PAIR),
             keys: none,
+            first_edges: vec![in alloc; 0; keys]?,
         })
+    }
+
+    /// The place of the edge of a key that is to be asked first.
+    pub(crate) fn first_edge(&self, key: usize) -> usize {
+        self.first_edges.get(key).copied().unwrap_or(0)
+    }
+
+    /// Has the edge at a place asked first from now on.
+    pub(crate) fn put_first_edge(&mut self, key: usize, place: usize)
+        ensures { self.new.keys ≡ self.old.keys }
+    {
+        if key < self.first_edges.len() {
+            self.first_edges[key] = place;
+        }
     }
 
     /// Whether a key pairs two names, where that is known.

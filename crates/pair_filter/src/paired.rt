@@ -1,10 +1,11 @@
 //! Whether a key pairs two names: edge by edge, down to a depth.
 
-ghost use Rattle.std.specs.Prelude.{◌≡◌, ◌<◌, ◌↔◌, IsTrue, Some, IfSome, length, slice_get};
+ghost use Rattle.std.specs.Prelude.{◌≡◌, ◌<◌, ◌↔◌, IsTrue, None, Some, IfNone, IfSome, length, slice_get};
+ghost use Rattle.chase_laws.specs.declared.pattern.Edge.{Edge};
 ghost use Rattle.std.specs.List.Sorted.{IsStrictlyIncreasing};
 ghost use Rattle.chase_laws.specs.declared.pattern.Slot.TheVariants.{Value};
 ghost use Rattle.chase_laws.specs.Pairing.{PairedHere};
-ghost use Rattle.pair_filter.specs.Along.{ArePairedExcept, ArePairedForth, ArePairedBack, HavePaired, HasPartner, HaveCommonPartner, IsValueEdge};
+ghost use Rattle.pair_filter.specs.Along.{ArePairedExcept, ArePairedAlong, ArePairedForth, ArePairedBack, HavePaired, HasPartner, HaveCommonPartner, IsValueEdge};
 
 use crate::alone::{has_alone, have_common, have_constant, is_alone};
 use crate::here::are_here;
@@ -40,7 +41,7 @@ fn are_paired(
 /// Whether two names that can go together at slot `s` are paired there to a depth, where the edge at the skipped place is
 /// not asked.
 #[cycle(paired)]
-pub(crate) fn are_paired_along(
+fn are_paired_along(
     graph: &Graph,
     pattern: &Pattern,
     skipped: Option<usize>,
@@ -69,6 +70,59 @@ pub(crate) fn are_paired_along(
         }
     }
     true
+}
+
+/// Whether two names are paired to a depth along the edge at a place, for each of its ends that is at slot `s`.
+fn are_paired_over(
+    graph: &Graph,
+    pattern: &Pattern,
+    depth: u8,
+    place: usize,
+    s: u8,
+    u: u32,
+    w: u32,
+) -> bool
+    requires place { place < length pattern.now.edges }
+    requires here { PairedHere graph.now pattern.now s u w }
+    ensures { IsTrue result ↔ ((e : Edge) → slice_get pattern.now.edges place ≡ Some e → ArePairedAlong graph.now pattern.now depth e s u w) }
+{
+    let edge = edge_at(pattern, place);
+    if !are_paired_forth(graph, pattern, depth, place, edge, s, u, w) {
+        return false;
+    }
+    are_paired_back(graph, pattern, depth, place, edge, s, u, w)
+}
+
+/// The place of an edge along which two names are not paired, which can go together at slot `s`; none where they are paired
+/// there to a depth. The edge at the place `first` is asked before the others. Any could be: an edge that has ruled out two
+/// names is likely to rule out the next two.
+pub(crate) fn unpaired_edge(
+    graph: &Graph,
+    pattern: &Pattern,
+    first: usize,
+    depth: u8,
+    s: u8,
+    u: u32,
+    w: u32,
+) -> Option<usize>
+    requires depth { 0 < depth }
+    requires here { PairedHere graph.now pattern.now s u w }
+    ensures some { IfSome result (λ _. ¬ (ArePairedExcept graph.now pattern.now None depth s u w)) }
+    ensures none { IfNone result (ArePairedExcept graph.now pattern.now None depth s u w) }
+{
+    let count = edge_count(pattern);
+    if first < count && !are_paired_over(graph, pattern, depth - 1, first, s, u, w) {
+        return Some(first);
+    }
+    for place in 0..count {
+        if place == first {
+            continue;
+        }
+        if !are_paired_over(graph, pattern, depth - 1, place, s, u, w) {
+            return Some(place);
+        }
+    }
+    None
 }
 
 /// Whether they are along an edge, if that begins at the slot.

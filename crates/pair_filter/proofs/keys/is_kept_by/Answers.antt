@@ -1,18 +1,24 @@
-use Rattle.std.proofs.Common.{Some, None, slice_get, ◌≡◌}
+use Rattle.std.proofs.Common.{Some, None, slice_get, ◌≡◌, refl, sym, true≢false}
 use Rattle.chase_laws.specs.declared.pattern.Slot.TheVariants.{Entity}
 use Rattle.pair_filter.proofs.Steps.{except_any, except_none}
 use Rattle.pair_filter.proofs.keys.is_kept_by.Goals as goal
 
-pub returns : goal.returns
-returns c =
+pub returns-in-Some : goal.returns-in-Some
+returns-in-Some c = (
+  (λ yes. absurd (true≢false (sym yes))),
+  (λ h. absurd (rw c.in-Some.is at c.unpaired_edge.ensures.some (except_any c.args.graph.now c.args.pattern.now None 2 0 c.args.a c.args.b h.paired))),
+)
+
+pub returns-in-None : goal.returns-in-None
+returns-in-None c =
     let G = c.args.graph.now in
     let Q = c.args.pattern.now in
     let at : slice_get Q.slots 0 ≡ Some (Entity c.designated_type.result) = c.designated_type.ensures in
     let here = c.requires (Entity c.designated_type.result) at in (
-      (λ y. record {
+      (λ yes. record {
         left = (Entity c.designated_type.result, at, here.0);
         right = (Entity c.designated_type.result, at, here.1);
-        paired = except_none G Q 2 0 c.args.a c.args.b (c.are_paired_along.ensures.0 y);
+        paired = except_none G Q 2 0 c.args.a c.args.b (rw c.in-None.is at c.unpaired_edge.ensures.none);
       }),
-      (λ h. c.are_paired_along.ensures.1 (except_any G Q None 2 0 c.args.a c.args.b h.paired)),
+      (λ h. refl),
     )
