@@ -12,8 +12,11 @@ use crate::memo::Memo;
 use chase_laws::{Pattern, Slot};
 use typed_graph::Graph;
 
-/// In a run of no more pairs than these it costs more than it saves to ask which keys pair the first name with itself.
+/// In a run of no more pairs than these it costs more than it saves to keep what they tell.
 const RUN: usize = 2;
+
+/// In a run of no more pairs than these it costs more than it saves to ask which keys pair the first name with itself.
+const ASKED_RUN: usize = 8;
 
 /// The keys that may pair a name with another: none outside of the places `first..end` does.
 #[derive(Clone, Copy)]
@@ -55,8 +58,8 @@ fn may_pair(graph: &Graph, pattern: &Pattern, name: u32, is_asked: bool) -> bool
 
 /// Whether it is worth while to ask whether a key pairs a name with itself: the name is first in a long run of pairs, and it is not
 /// known.
-fn is_to_ask(is_long: bool, memo: &Memo, key: usize, name: u32) -> bool {
-    is_long && !memo.is_paired(key, name)
+fn is_to_ask(is_worth_it: bool, memo: &Memo, key: usize, name: u32) -> bool {
+    is_worth_it && !memo.is_paired(key, name)
 }
 
 /// The place of the first key that may pair a name with another.
@@ -64,7 +67,7 @@ fn first_place(
     graph: &Graph,
     patterns: &[Pattern],
     name: u32,
-    is_long: bool,
+    is_worth_it: bool,
     memo: &Memo,
 ) -> Option<usize>
     ensures within { IfSome result (λ first. first < length patterns.now) }
@@ -72,7 +75,7 @@ fn first_place(
     ensures none { IfNone result ((key : ℕ) (Q : Shape) → slice_get patterns.now key ≡ Some Q → PairsWithNone graph.now Q name) }
 {
     for key in 0..patterns.len() {
-        let is_asked = is_to_ask(is_long, memo, key, name);
+        let is_asked = is_to_ask(is_worth_it, memo, key, name);
         if may_pair(graph, &patterns[key], name, is_asked) {
             return Some(key);
         }
@@ -85,7 +88,7 @@ fn end_place(
     graph: &Graph,
     patterns: &[Pattern],
     name: u32,
-    is_long: bool,
+    is_worth_it: bool,
     memo: &Memo,
     first: usize,
 ) -> usize
@@ -95,7 +98,7 @@ fn end_place(
 {
     let behind = first + 1;
     for key in (behind..patterns.len()).rev() {
-        let is_asked = is_to_ask(is_long, memo, key, name);
+        let is_asked = is_to_ask(is_worth_it, memo, key, name);
         if may_pair(graph, &patterns[key], name, is_asked) {
             return key + 1;
         }
@@ -103,30 +106,36 @@ fn end_place(
     behind
 }
 
-/// The keys from the first that may pair a name with another to the last; none where no key may.
-fn reach_of(graph: &Graph, patterns: &[Pattern], name: u32, is_long: bool, memo: &Memo) -> Reach
+/// The keys from the first that may pair a name with another to the last; none where no key may. Whether the name is first in a
+/// long run of pairs is not known here.
+fn reach_of(graph: &Graph, patterns: &[Pattern], name: u32, is_worth_it: bool, memo: &Memo) -> Reach
     ensures reach { IsReach graph.now patterns.now result }
     ensures name { result.name ≡ name }
 {
-    let Some(first) = first_place(graph, patterns, name, is_long, memo) else {
+    let Some(first) = first_place(graph, patterns, name, is_worth_it, memo) else {
         return Reach {
             name,
             first: 0,
             end: 0,
-            is_long,
+            is_long: false,
         };
     };
-    let end = end_place(graph, patterns, name, is_long, memo, first);
+    let end = end_place(graph, patterns, name, is_worth_it, memo, first);
     Reach {
         name,
         first,
         end,
-        is_long,
+        is_long: false,
     }
 }
 
-/// The same for the name that is first in the first of some pairs. Whether a long run of them has it is seen from one pair farther
+/// Whether more than so many of some pairs begin with the name that is first in the first of them. It is seen from one pair farther
 /// on, as the pairs ascend. Where they do not, it may be guessed wrong, which costs time alone.
+fn repeats(pairs: &[(u32, u32)], count: usize, name: u32) -> bool {
+    pairs.len() > count && pairs[count].0 == name
+}
+
+/// The same for the name that is first in the first of some pairs.
 pub(crate) fn reach_along(
     graph: &Graph,
     patterns: &[Pattern],
@@ -137,6 +146,9 @@ pub(crate) fn reach_along(
     ensures reach { IsReach graph.now patterns.now result }
     ensures name { result.name ≡ name }
 {
-    let is_long = pairs.len() > RUN && pairs[RUN].0 == name;
-    reach_of(graph, patterns, name, is_long, memo)
+    let reach = reach_of(graph, patterns, name, repeats(pairs, ASKED_RUN, name), memo);
+    Reach {
+        is_long: repeats(pairs, RUN, name),
+        ..reach
+    }
 }
