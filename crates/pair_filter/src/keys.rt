@@ -71,8 +71,8 @@ fn are_paired_by(
     is_kept_by(graph, pattern, first, pair.0, pair.1)
 }
 
-/// Whether the key at a place pairs two names to depth 2. What is known from pairs before is not asked again, and in a long run of
-/// pairs what this one tells is kept.
+/// Whether the key at a place pairs two names to depth 2. What is known from pairs before is not asked again, and what these two
+/// tell is kept where the first is first in many pairs.
 fn are_paired_at(
     graph: &Graph,
     patterns: &[Pattern],
@@ -99,7 +99,12 @@ fn are_paired_at(
     let mut first = memo.first_edge(key);
     let paired = are_paired_by(graph, pattern, &mut first, pair, missing);
     memo.put_first_edge(key, first);
-    if reach.is_long {
+    let is_told = if paired {
+        reach.is_kept
+    } else {
+        reach.is_asked
+    };
+    if is_told {
         memo.learn(graph, patterns, key, pair, paired);
     }
     paired

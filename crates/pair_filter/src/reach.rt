@@ -12,10 +12,10 @@ use crate::memo::Memo;
 use chase_laws::{Pattern, Slot};
 use typed_graph::Graph;
 
-/// In a run of no more pairs than these it costs more than it saves to keep what they tell.
-const RUN: usize = 2;
+/// In a run of no more pairs than these it costs more than it saves to keep which names a key pairs.
+const KEPT_RUN: usize = 2;
 
-/// In a run of no more pairs than these it costs more than it saves to ask which keys pair the first name with itself.
+/// In a run of no more pairs than these it costs more than it saves to ask which keys pair a name with itself.
 const ASKED_RUN: usize = 8;
 
 /// The keys that may pair a name with another: none outside of the places `first..end` does.
@@ -24,8 +24,10 @@ pub(crate) struct Reach {
     pub name: u32,
     pub first: usize,
     pub end: usize,
-    /// Whether the name is first in a long run of pairs, so that it pays to keep what they tell.
-    pub is_long: bool,
+    /// Whether the name is first in so many pairs that it pays to keep which of them a key pairs.
+    pub is_kept: bool,
+    /// Whether it is first in so many that it pays to ask which keys pair a name with itself.
+    pub is_asked: bool,
 }
 
 /// All keys, for any name: nothing is asked of it.
@@ -37,7 +39,8 @@ pub(crate) fn all_keys(patterns: &[Pattern], name: u32) -> Reach
         name,
         first: 0,
         end: patterns.len(),
-        is_long: false,
+        is_kept: false,
+        is_asked: false,
     }
 }
 
@@ -56,10 +59,9 @@ fn may_pair(graph: &Graph, pattern: &Pattern, name: u32, is_asked: bool) -> bool
     is_alone(graph, pattern, None, DEPTH, 0, name)
 }
 
-/// Whether it is worth while to ask whether a key pairs a name with itself: the name is first in a long run of pairs, and it is not
-/// known.
-fn is_to_ask(is_worth_it: bool, memo: &Memo, key: usize, name: u32) -> bool {
-    is_worth_it && !memo.is_paired(key, name)
+/// Whether it is worth while to ask whether a key pairs a name with itself: the name is first in many pairs, and it is not known.
+fn is_to_ask(are_many: bool, memo: &Memo, key: usize, name: u32) -> bool {
+    are_many && !memo.is_paired(key, name)
 }
 
 /// The place of the first key that may pair a name with another.
@@ -67,7 +69,7 @@ fn first_place(
     graph: &Graph,
     patterns: &[Pattern],
     name: u32,
-    is_worth_it: bool,
+    are_many: bool,
     memo: &Memo,
 ) -> Option<usize>
     ensures within { IfSome result (λ first. first < length patterns.now) }
@@ -75,7 +77,7 @@ fn first_place(
     ensures none { IfNone result ((key : ℕ) (Q : Shape) → slice_get patterns.now key ≡ Some Q → PairsWithNone graph.now Q name) }
 {
     for key in 0..patterns.len() {
-        let is_asked = is_to_ask(is_worth_it, memo, key, name);
+        let is_asked = is_to_ask(are_many, memo, key, name);
         if may_pair(graph, &patterns[key], name, is_asked) {
             return Some(key);
         }
@@ -88,7 +90,7 @@ fn end_place(
     graph: &Graph,
     patterns: &[Pattern],
     name: u32,
-    is_worth_it: bool,
+    are_many: bool,
     memo: &Memo,
     first: usize,
 ) -> usize
@@ -98,7 +100,7 @@ fn end_place(
 {
     let behind = first + 1;
     for key in (behind..patterns.len()).rev() {
-        let is_asked = is_to_ask(is_worth_it, memo, key, name);
+        let is_asked = is_to_ask(are_many, memo, key, name);
         if may_pair(graph, &patterns[key], name, is_asked) {
             return key + 1;
         }
@@ -106,32 +108,40 @@ fn end_place(
     behind
 }
 
-/// The keys from the first that may pair a name with another to the last; none where no key may. Whether the name is first in a
-/// long run of pairs is not known here.
-fn reach_of(graph: &Graph, patterns: &[Pattern], name: u32, is_worth_it: bool, memo: &Memo) -> Reach
+/// The keys from the first that may pair a name with another to the last; none where no key may.
+fn reach_of(
+    graph: &Graph,
+    patterns: &[Pattern],
+    name: u32,
+    is_kept: bool,
+    is_asked: bool,
+    memo: &Memo,
+) -> Reach
     ensures reach { IsReach graph.now patterns.now result }
     ensures name { result.name ≡ name }
 {
-    let Some(first) = first_place(graph, patterns, name, is_worth_it, memo) else {
+    let Some(first) = first_place(graph, patterns, name, is_asked, memo) else {
         return Reach {
             name,
             first: 0,
             end: 0,
-            is_long: false,
+            is_kept,
+            is_asked,
         };
     };
-    let end = end_place(graph, patterns, name, is_worth_it, memo, first);
+    let end = end_place(graph, patterns, name, is_asked, memo, first);
     Reach {
         name,
         first,
         end,
-        is_long: false,
+        is_kept,
+        is_asked,
     }
 }
 
-/// Whether more than so many of some pairs begin with the name that is first in the first of them. It is seen from one pair farther
-/// on, as the pairs ascend. Where they do not, it may be guessed wrong, which costs time alone.
-fn repeats(pairs: &[(u32, u32)], count: usize, name: u32) -> bool {
+/// Whether a name is first in more than so many pairs. It is seen from one pair farther on, as the pairs ascend. Where they do
+/// not, it may be guessed wrong, which costs time alone.
+fn is_first_in(pairs: &[(u32, u32)], count: usize, name: u32) -> bool {
     pairs.len() > count && pairs[count].0 == name
 }
 
@@ -146,9 +156,7 @@ pub(crate) fn reach_along(
     ensures reach { IsReach graph.now patterns.now result }
     ensures name { result.name ≡ name }
 {
-    let reach = reach_of(graph, patterns, name, repeats(pairs, ASKED_RUN, name), memo);
-    Reach {
-        is_long: repeats(pairs, RUN, name),
-        ..reach
-    }
+    let is_kept = is_first_in(pairs, KEPT_RUN, name);
+    let is_asked = is_first_in(pairs, ASKED_RUN, name);
+    reach_of(graph, patterns, name, is_kept, is_asked, memo)
 }

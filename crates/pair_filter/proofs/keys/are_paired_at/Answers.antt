@@ -26,20 +26,20 @@ pub learn-requires-clause-paired : goal.learn-requires-clause-paired
 learn-requires-clause-paired c = λ yes.
     (c.index-patterns-key.result, key_at c.args.patterns.now c.args.key c.index-patterns-key.result c.requires.key c.index-patterns-key.is, c.are_paired_by-paired.ensures.paired yes)
 
-pub returns-then-reach-clause-paired : goal.returns-then-reach-clause-paired
-returns-then-reach-clause-paired c = λ yes.
+pub returns-then-is_told-clause-paired : goal.returns-then-is_told-clause-paired
+returns-then-is_told-clause-paired c = λ yes.
     (c.index-patterns-key.result, key_at c.args.patterns.now c.args.key c.index-patterns-key.result c.requires.key c.index-patterns-key.is, c.are_paired_by-paired.ensures.paired yes)
 
-pub returns-then-reach-clause-ruled_out : goal.returns-then-reach-clause-ruled_out
-returns-then-reach-clause-ruled_out c = λ no R found.
+pub returns-then-is_told-clause-ruled_out : goal.returns-then-is_told-clause-ruled_out
+returns-then-is_told-clause-ruled_out c = λ no R found.
     subst (λ (X : Shape). IsRuledOut c.args.graph.now X c.args.pair.0 c.args.pair.1) (at_key c.args.patterns.now c.args.key c.index-patterns-key.result R c.index-patterns-key.is found)
     (c.are_paired_by-paired.ensures.ruled_out no)
 
-pub returns-else-reach-clause-paired : goal.returns-else-reach-clause-paired
-returns-else-reach-clause-paired c = λ yes.
+pub returns-else-is_told-clause-paired : goal.returns-else-is_told-clause-paired
+returns-else-is_told-clause-paired c = λ yes.
     (c.index-patterns-key.result, key_at c.args.patterns.now c.args.key c.index-patterns-key.result c.requires.key c.index-patterns-key.is, c.are_paired_by-paired.ensures.paired yes)
 
-pub returns-else-reach-clause-ruled_out : goal.returns-else-reach-clause-ruled_out
-returns-else-reach-clause-ruled_out c = λ no R found.
+pub returns-else-is_told-clause-ruled_out : goal.returns-else-is_told-clause-ruled_out
+returns-else-is_told-clause-ruled_out c = λ no R found.
     subst (λ (X : Shape). IsRuledOut c.args.graph.now X c.args.pair.0 c.args.pair.1) (at_key c.args.patterns.now c.args.key c.index-patterns-key.result R c.index-patterns-key.is found)
     (c.are_paired_by-paired.ensures.ruled_out no)
