@@ -34,4 +34,5 @@ pub use laws::{law_ends_at_a_character, law_one_answer, law_one_reading, law_rea
 pub use lexed::LexedTerm;
 pub use literal::read_literal;
 pub use object::{lex_object, read_object};
+pub use scan::{iri_run, string_run};
 pub use space::skip_space;

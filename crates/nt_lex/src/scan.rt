@@ -52,7 +52,7 @@ fn iri_run_slowly(line: &[u8], at: usize) -> usize
 
 /// The first place from `at` on with a byte that does not stand for itself in an IRI, or the end.
 #[inline]
-pub(crate) fn iri_run(line: &[u8], at: usize) -> usize
+pub fn iri_run(line: &[u8], at: usize) -> usize
     requires { at ≤ length line.now }
     ensures { IsRunAt is_iri_plain line.now at result }
 {
@@ -81,7 +81,7 @@ fn string_run_slowly(line: &[u8], at: usize) -> usize
 
 /// The first place from `at` on with a byte that does not stand for itself in a string, or the end.
 #[inline]
-pub(crate) fn string_run(line: &[u8], at: usize) -> usize
+pub fn string_run(line: &[u8], at: usize) -> usize
     requires { at ≤ length line.now }
     ensures { IsRunAt is_string_plain line.now at result }
 {

@@ -1,12 +1,13 @@
 -- One piece after another.
-use Rattle.std.proofs.Common.{◌≡◌, ℕ, ◌+◌, ◌<◌, ◌≤◌, false, cond, ◌||◌, eqb, List, [], ◌∷◌, ◌++◌, length, get_or, take, drop, sym, ap, ◌∙◌, arith, append_assoc, append-nil}
-use Rattle.std.proofs.lemmas.Bool.{or_parts}
-use Rattle.std.proofs.lemmas.List.{take_more, drop-append-le, drop_all, length-take-le}
+use Rattle.std.proofs.Common.{◌≡◌, ℕ, zero, suc, ◌+◌, ◌-◌, ◌<◌, ◌≤◌, false, cond, ◌||◌, eqb, List, [], ◌∷◌, ◌++◌, length, get_or, take, drop, slice_range, sym, ap, ◌∙◌, subst, arith, append_assoc, append-nil}
+use Rattle.nt_lex.specs.Scans.{AllPassBetween, IsRunAt}
+use Rattle.std.proofs.lemmas.Bool.{or_parts, not-true}
+use Rattle.std.proofs.lemmas.List.{take_more, drop-take, drop-append-le, drop_all, length-take-le}
 use Rattle.std.proofs.lemmas.List.Concat.{flat_map-append}
 use Rattle.std.specs.List.{flat_map}
 use Rattle.term_text.specs.CanonicalText.{unicode_escape}
 use Rattle.term_text.specs.Appending.{BeginsWith}
-use Rattle.term_text.specs.Escaping.{written_byte, is_escaped}
+use Rattle.term_text.specs.Escaping.{written_byte, is_escaped, is_raw}
 use Rattle.term_text.specs.declared.escapes.Inside.{Inside}
 use Rattle.term_text.specs.declared.escapes.Inside.TheVariants.{Brackets, Quotes}
 
@@ -36,8 +37,8 @@ raw_byte Quotes c e =
     ∙ (ap (λ b. cond b (0x5C ∷ 0x6E ∷ []) (cond (eqb c 0x0D) (0x5C ∷ 0x72 ∷ []) (c ∷ []))) two.1
     ∙ ap (λ b. cond b (0x5C ∷ 0x72 ∷ []) (c ∷ [])) three.1))
 
--- a step of a scan over a byte that is written as it is
-pub byte_passed : (f : ℕ → List ℕ) (old buf text : List ℕ) (copied place : ℕ) → copied ≤ place → place < length text → f (get_or text place 0) ≡ get_or text place 0 ∷ [] → buf ++ drop copied (take place text) ≡ old ++ flat_map f (take place text) → buf ++ drop copied (take (place + 1) text) ≡ old ++ flat_map f (take (place + 1) text)
+-- a byte that is written as it is
+byte_passed : (f : ℕ → List ℕ) (old buf text : List ℕ) (copied place : ℕ) → copied ≤ place → place < length text → f (get_or text place 0) ≡ get_or text place 0 ∷ [] → buf ++ drop copied (take place text) ≡ old ++ flat_map f (take place text) → buf ++ drop copied (take (place + 1) text) ≡ old ++ flat_map f (take (place + 1) text)
 byte_passed f old buf text copied place behind inside raw all =
     let byte = get_or text place 0 in
     let longer : take (place + 1) text ≡ take place text ++ byte ∷ [] = take_more text place 0 inside in
@@ -52,17 +53,38 @@ byte_passed f old buf text copied place behind inside raw all =
     ∙ (append_assoc old (flat_map f (take place text)) (byte ∷ [])
     ∙ ap (λ l. old ++ l) (sym written))))
 
--- a step over a byte that is escaped
-pub byte_escaped : (f : ℕ → List ℕ) (old buf run ended text : List ℕ) (copied place : ℕ) → place < length text → run ≡ buf ++ drop copied (take place text) → ended ≡ run ++ f (get_or text place 0) → buf ++ drop copied (take place text) ≡ old ++ flat_map f (take place text) → ended ++ drop (place + 1) (take (place + 1) text) ≡ old ++ flat_map f (take (place + 1) text)
-byte_escaped f old buf run ended text copied place inside copy escape all =
+-- bytes that may stand raw are written as they are
+run_to : (inside : Inside) (old buf text : List ℕ) (from k : ℕ) → from + k ≤ length text → AllPassBetween (is_raw inside) text from (from + k) → buf ++ drop from (take from text) ≡ old ++ flat_map (written_byte inside) (take from text) → buf ++ drop from (take (from + k) text) ≡ old ++ flat_map (written_byte inside) (take (from + k) text)
+run_to inside old buf text from zero within pass begun =
+    let same : from ≡ from + 0 = omega arith in
+    subst (λ n. buf ++ drop from (take n text) ≡ old ++ flat_map (written_byte inside) (take n text)) same begun
+run_to inside old buf text from (suc k) within pass begun =
+    let place = from + k in
+    let next : place + 1 ≡ from + suc k = omega arith in
+    let before = run_to inside old buf text from k (omega (arith, within)) (λ i low high. pass i low (omega (arith, high))) begun in
+    let raw : is_escaped inside (get_or text place 0) ≡ false = not-true (is_escaped inside (get_or text place 0)) (pass place (omega arith) (omega arith)) in
+    subst (λ n. buf ++ drop from (take n text) ≡ old ++ flat_map (written_byte inside) (take n text)) next
+    (byte_passed (written_byte inside) old buf text from place (omega arith) (omega (arith, within)) (raw_byte inside (get_or text place 0) raw) before)
+
+-- a run of bytes that may stand raw
+pub run_passed : (inside : Inside) (old buf ended text : List ℕ) (from end : ℕ) → IsRunAt (is_raw inside) text from end → buf ≡ old ++ flat_map (written_byte inside) (take from text) → ended ≡ buf ++ slice_range text from end → ended ≡ old ++ flat_map (written_byte inside) (take end text)
+run_passed inside old buf ended text from end run begun copy =
+    let whole : from + (end - from) ≡ end = omega (arith, run.ordered) in
+    let long : length (take from text) ≡ from = length-take-le from text (omega (arith, run.ordered, run.in_range)) in
+    let empty : buf ++ drop from (take from text) ≡ buf = ap (λ l. buf ++ l) (drop_all from (take from text) (omega (arith, long))) ∙ append-nil buf in
+    let all : buf ++ drop from (take (from + (end - from)) text) ≡ old ++ flat_map (written_byte inside) (take (from + (end - from)) text) =
+    run_to inside old buf text from (end - from) (omega (arith, whole, run.in_range)) (λ i low high. run.pass i low (omega (arith, high, whole))) (empty ∙ begun) in
+    let part : take (end - from) (drop from text) ≡ drop from (take end text) = sym (drop-take from (end - from) text) ∙ ap (λ n. drop from (take n text)) whole in
+    copy ∙ (ap (λ l. buf ++ l) part ∙ subst (λ n. buf ++ drop from (take n text) ≡ old ++ flat_map (written_byte inside) (take n text)) whole all)
+
+-- a byte that is escaped
+pub byte_escaped : (f : ℕ → List ℕ) (old buf ended text : List ℕ) (place : ℕ) → place < length text → buf ≡ old ++ flat_map f (take place text) → ended ≡ buf ++ f (get_or text place 0) → ended ≡ old ++ flat_map f (take (place + 1) text)
+byte_escaped f old buf ended text place inside all escape =
     let byte = get_or text place 0 in
     let longer : take (place + 1) text ≡ take place text ++ byte ∷ [] = take_more text place 0 inside in
-    let long : length (take (place + 1) text) ≡ place + 1 = length-take-le (place + 1) text (omega arith) in
     let written : flat_map f (take (place + 1) text) ≡ flat_map f (take place text) ++ f byte =
     ap (flat_map f) longer ∙ (flat_map-append f (take place text) (byte ∷ []) ∙ ap (λ l. flat_map f (take place text) ++ l) (append-nil (f byte))) in
-    ap (λ l. ended ++ l) (drop_all (place + 1) (take (place + 1) text) (omega (arith, long)))
-    ∙ (append-nil ended
-    ∙ (escape
-    ∙ (ap (λ l. l ++ f byte) (copy ∙ all)
+    escape
+    ∙ (ap (λ l. l ++ f byte) all
     ∙ (append_assoc old (flat_map f (take place text)) (f byte)
-    ∙ ap (λ l. old ++ l) (sym written)))))
+    ∙ ap (λ l. old ++ l) (sym written)))

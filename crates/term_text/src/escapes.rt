@@ -1,12 +1,14 @@
 //! The bytes of IRIs and strings, escaped where they may not stand raw.
 
-ghost use Rattle.std.specs.Prelude.{◌≡◌, ◌++◌, ◌<◌, OnOk, IsTrue};
+ghost use Rattle.std.specs.Prelude.{◌≡◌, ◌++◌, ◌<◌, ◌≤◌, OnOk, IsTrue, length};
 ghost use Rattle.std.specs.List.{flat_map};
+ghost use Rattle.nt_lex.specs.Scans.{IsRunAt};
 ghost use Rattle.term_text.specs.CanonicalText.{hex_digit as digit_of};
 ghost use Rattle.term_text.specs.Appending.{BeginsWith};
-ghost use Rattle.term_text.specs.Escaping.{written_byte, is_escaped};
+ghost use Rattle.term_text.specs.Escaping.{written_byte, is_escaped, is_raw};
 
 use gk_base::NoMemory;
+use nt_lex::{iri_run, string_run};
 
 /// Where a byte stands.
 #[derive(Clone, Copy)]
@@ -18,17 +20,15 @@ pub enum Inside {
 }
 
 impl Inside {
-    /// Whether this byte may not stand raw there.
+    /// The first place from `at` on with a byte that may not stand raw there, or the end.
     #[inline]
-    fn escapes(self, byte: u8) -> bool
-        ensures { result ≡ is_escaped self byte }
+    fn run(self, text: &[u8], at: usize) -> usize
+        requires { at ≤ length text.now }
+        ensures { IsRunAt (is_raw self) text.now at result }
     {
         match self {
-            Inside::Brackets => matches!(
-                byte,
-                0..=0x20 | b'<' | b'>' | b'"' | b'{' | b'}' | b'|' | b'^' | b'`' | b'\\'
-            ),
-            Inside::Quotes => matches!(byte, b'"' | b'\\' | b'\n' | b'\r'),
+            Inside::Brackets => iri_run(text, at),
+            Inside::Quotes => string_run(text, at),
         }
     }
 }
@@ -49,15 +49,15 @@ pub fn put_escaped(buf: &mut Vec<u8>, text: &[u8], inside: Inside) -> Result<(),
     ensures ok { OnOk result (buf.new.items ≡ buf.old.items ++ flat_map (written_byte inside) text.now) }
     ensures kept { BeginsWith buf.old.items buf.new.items }
 {
-    let mut copied = 0;
-    for (place, byte) in text.iter().enumerate() {
-        if inside.escapes(*byte) {
-            put(buf, &text[copied..place])?;
-            put_escape(buf, *byte, inside)?;
-            copied = place + 1;
-        }
+    let mut end = inside.run(text, 0);
+    put(buf, &text[..end])?;
+    while end < text.len() {
+        put_escape(buf, text[end], inside)?;
+        let from = end + 1;
+        end = inside.run(text, from);
+        put(buf, &text[from..end])?;
     }
-    put(buf, &text[copied..])
+    Ok(())
 }
 
 /// Appends the escape of a byte that may not stand raw there.

@@ -1,4 +1,3 @@
-use Rattle.std.proofs.Common.{sym, ◌∙◌, append-nil}
 use Rattle.term_text.proofs.LineSteps.{lines_of_all}
 use Rattle.term_text.proofs.lines.class_lines.Goals as goal
 
