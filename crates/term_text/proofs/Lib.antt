@@ -8,3 +8,4 @@ mod Places
 mod ReadBack
 mod ReportLaw
 mod Sorting
+mod TextLemmas

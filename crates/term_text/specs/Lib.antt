@@ -7,3 +7,4 @@ pub mod Escaping
 pub mod Labels
 pub mod Members
 pub mod Lines
+pub mod MemberTexts

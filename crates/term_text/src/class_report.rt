@@ -9,7 +9,8 @@ use crate::Report;
 use crate::label_counts::LabelCounts;
 use crate::lines::class_lines;
 use crate::links::link;
-use crate::member::{Member, members_of_names, sort_by_text};
+use crate::listing::{lent_members, members_of_names};
+use crate::member::{Member, sort_by_text};
 use gk_base::NoMemory;
 use std::alloc::Global;
 use std::thread::Threads;
@@ -32,7 +33,8 @@ pub fn report<R: Threads + Sync>(
         (λ a b. slice_index labels.now a == slice_index labels.now b)) }
 {
     let counts = LabelCounts::of_labels(alloc, labels)?;
-    let mut members = members_of_names(rt, alloc, threads, names, labels, &counts)?;
+    let parts = members_of_names(rt, alloc, threads, names, labels, &counts)?;
+    let mut members = lent_members(alloc, &parts)?;
     report_of_members(rt, alloc, threads, names.len(), &mut members)
 }
 
@@ -43,7 +45,7 @@ fn report_of_members<R: Threads + Sync>(
     alloc: Global,
     threads: u32,
     labels: u32,
-    members: &mut [Member],
+    members: &mut [Member<'_>],
 ) -> Result<Report, NoMemory>
     requires few { length members.old < 2 ^ 32 }
     ensures { IfOk result (λ r. Prints members.old r) }

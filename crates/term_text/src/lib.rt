@@ -7,7 +7,9 @@
 //! - `escapes`: the bytes of IRIs and strings, escaped
 //! - `label_counts`: which labels more than one name has
 //! - `label_places`: a place for each label
-//! - `member`: the names that are printed, with their texts, and their order
+//! - `member_texts`: the texts of the names that are printed
+//! - `member`, `lent_text`: these names with their texts, which are lent, and their order
+//! - `listing`: which names are printed
 //! - `links`: which member follows which in its class
 //! - `lines`: the lines of the classes
 //! - `class_report`: the report
@@ -19,9 +21,12 @@ mod class_report;
 mod escapes;
 mod label_counts;
 mod label_places;
+mod lent_text;
 mod lines;
 mod links;
+mod listing;
 mod member;
+mod member_texts;
 mod report_bytes;
 
 pub use canonical::{put_lent_term, put_lent_triple, put_term, put_triple};

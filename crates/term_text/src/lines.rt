@@ -38,7 +38,7 @@ fn halfway(links: &Links, from: usize, to: usize) -> usize
 /// The lines of the classes whose first members stand from one place up to another.
 fn lines_between(
     alloc: Global,
-    members: &[Member],
+    members: &[Member<'_>],
     links: &Links,
     from: usize,
     to: usize,
@@ -65,7 +65,7 @@ fn lines_in_threads<R: Threads + Sync>(
     rt: &R,
     alloc: Global,
     threads: u32,
-    members: &[Member],
+    members: &[Member<'_>],
     links: &Links,
     from: usize,
     to: usize,
@@ -111,7 +111,7 @@ pub fn class_lines<R: Threads + Sync>(
     rt: &R,
     alloc: Global,
     threads: u32,
-    members: &[Member],
+    members: &[Member<'_>],
     links: &Links,
 ) -> Result<Vec<u8>, NoMemory>
     requires linked { IsLinked links.now members.now }
@@ -125,7 +125,7 @@ pub fn class_lines<R: Threads + Sync>(
 /// Appends the line of the class that begins at this place, or nothing where the class has no other member.
 fn put_line(
     out: &mut Vec<u8>,
-    members: &[Member],
+    members: &[Member<'_>],
     links: &Links,
     place: usize,
 ) -> Result<(), NoMemory>

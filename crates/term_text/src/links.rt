@@ -18,7 +18,7 @@ pub struct Links {
 }
 
 /// Links the members that have one label. Labels below this number cost least.
-pub fn link(alloc: Global, members: &[Member], labels: u32) -> Result<Links, NoMemory>
+pub fn link(alloc: Global, members: &[Member<'_>], labels: u32) -> Result<Links, NoMemory>
     requires few { length members.now < 2 ^ 32 }
     ensures { IfOk result (λ links. IsLinked links members.now) }
 {

@@ -7,13 +7,15 @@ use Rattle.std.proofs.lemmas.Result.{IfOk-weaker}
 use Rattle.term_text.specs.CanonicalText.{term_text, texts_of}
 use Rattle.term_text.specs.Labels.{is_shared_in}
 use Rattle.term_text.specs.Members.{member_at}
+use Rattle.term_text.specs.MemberTexts.{joined_members}
 use Rattle.term_text.proofs.ReportLaw.{report_is}
 use Rattle.term_text.proofs.class_report.report.Goals as goal
 
 pub returns : goal.returns
 returns g c =
+    let listed = c.in_ok-members.ensures ∙ (ap joined_members c.deref.ensures.value ∙ c.in_ok-parts.ensures) in
     IfOk-weaker c.report_of_members.result _ _
-    (λ bytes printed. report_is (texts_of c.args.names.now) c.args.labels.now c.in_ok-counts.counts (c.requires ∙ sym (length-map c.args.names.now term_text)) c.in_ok-counts.ensures c.in_ok-members.members.items c.in_ok-members.ensures bytes printed)
+    (λ bytes printed. report_is (texts_of c.args.names.now) c.args.labels.now c.in_ok-counts.counts (c.requires ∙ sym (length-map c.args.names.now term_text)) c.in_ok-counts.ensures c.in_ok-members.members.items listed bytes printed)
     (rw c.deref_mut.ensures.value at c.report_of_members.ensures)
 
 -- there are no more members than names
@@ -26,5 +28,5 @@ report_of_members-requires-clause-few g c κs within =
     let fewer : length (filter test numbers) ≤ length labels =
     omega (arith, length-filter test numbers, count_by-le-length test numbers, length-range_with_len 0 (length labels)) in
     let as_many = length-map (filter test numbers) (member_at (texts_of c.args.names.now) labels) in
-    let members = ap length c.in_ok-members.ensures in
+    let members = ap length (c.in_ok-members.ensures ∙ (ap joined_members c.deref.ensures.value ∙ c.in_ok-parts.ensures)) in
     omega (arith, as_many, fewer, members, c.deref_mut.ensures.len, c.in_ok-members.members.ok.0, c.requires, c.len.ensures.small)

@@ -1,5 +1,5 @@
 use Rattle.std.proofs.Common.{◌+◌, ◌*◌}
-use Rattle.term_text.proofs.member.+halves.Given as goal
+use Rattle.term_text.proofs.listing.+halves.Given as goal
 
 abbrev pub decreases-members_in_threads : goal.decreases-members_in_threads
 decreases-members_in_threads g l = 2 * l.threads

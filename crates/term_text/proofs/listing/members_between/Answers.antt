@@ -6,8 +6,8 @@ use Rattle.term_text.specs.CanonicalText.{term_text, texts_of}
 use Rattle.term_text.specs.Labels.{is_shared_in}
 use Rattle.term_text.specs.Members.{member_at}
 use Rattle.term_text.proofs.Choosing.{chosen_yes, chosen_no}
-use Rattle.term_text.proofs.member.members_between.Goals as goal
-use Rattle.term_text.proofs.member.members_between.Goals.{then-is_shared+in_ok-text+in_ok-push, else-is_shared}
+use Rattle.term_text.proofs.listing.members_between.Goals as goal
+use Rattle.term_text.proofs.listing.members_between.Goals.{then-is_shared+in_ok-push, else-is_shared}
 
 pub loop-place-preserved : goal.loop-place-preserved
 loop-place-preserved c =
@@ -17,16 +17,15 @@ loop-place-preserved c =
     let place = c.loop-place.place in
     let test = λ (n : ℕ). is_shared_in c.args.counts.now (get_or labels n 0) in
     elim c.if-is_shared.branch [
-      | then-is_shared+in_ok-text+in_ok-push w ↦
+      | then-is_shared+in_ok-push w ↦
           let term = w.term.result in
           let inside : place < length names = omega (arith, c.requires.within) in
-          let text = w.in_ok-text.ensures
-          ∙ (sym (ap term_text (get_or_from_slice_get names place term term w.term.ensures))
-          ∙ sym (get_or-map term_text names place term [] inside)) in
+          let text = sym (ap term_text (get_or_from_slice_get names place term term w.term.ensures))
+          ∙ sym (get_or-map term_text names place term [] inside) in
           chosen_yes (member_at texts labels) test c.args.from place _ _ _ (omega arith) (sym c.is_shared.ensures ∙ w.if-is_shared.true)
           (ap (λ (t : List ℕ). let m : Member = record { text = t; label = get_or labels place 0 } in m) text)
-          (ap (λ v. v.items) w.members-is ∙ w.in_ok-push.ensures.items) c.loop-place.invariant
+          (w.members-is ∙ w.in_ok-push.ensures) c.loop-place.invariant
       | else-is_shared w ↦
-          ap (λ v. v.items) w.members-is
+          w.members-is
           ∙ chosen_no (member_at texts labels) test c.args.from place _ (omega arith) (sym c.is_shared.ensures ∙ w.if-is_shared.false) c.loop-place.invariant
     ]
