@@ -53,7 +53,7 @@ module _ (G : NumberedGraph) (Q : Shape) where
   here_of zero s u w h = h
   here_of (suc d) s u w h = h.0
 
-  along_edge : (depth d s u w : ℕ) → depth ≡ suc d → ArePaired G Q depth s u w → (k : ℕ) (e : Edge) → slice_get Q.edges k ≡ Some e → ArePairedAlong G Q d e s u w
+  pub along_edge : (depth d s u w : ℕ) → depth ≡ suc d → ArePaired G Q depth s u w → (k : ℕ) (e : Edge) → slice_get Q.edges k ≡ Some e → ArePairedAlong G Q d e s u w
   along_edge depth d s u w is h k e at =
       let lt = slice_get_within Q.edges k e at in
       let paired : ArePaired G Q (suc d) s u w = subst (λ n. ArePaired G Q n s u w) is h in

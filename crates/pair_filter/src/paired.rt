@@ -1,6 +1,6 @@
 //! Whether a key pairs two names: edge by edge, down to a depth.
 
-ghost use Rattle.std.specs.Prelude.{◌≡◌, ◌<◌, ◌↔◌, IsTrue, None, Some, IfNone, IfSome, length, slice_get};
+ghost use Rattle.std.specs.Prelude.{◌≡◌, ◌<◌, ◌-◌, ◌↔◌, IsTrue, None, Some, IfNone, IfSome, length, slice_get};
 ghost use Rattle.chase_laws.specs.declared.pattern.Edge.{Edge};
 ghost use Rattle.std.specs.List.Sorted.{IsStrictlyIncreasing};
 ghost use Rattle.chase_laws.specs.declared.pattern.Slot.TheVariants.{Value};
@@ -61,11 +61,7 @@ fn are_paired_along(
         if is_skipped(skipped, place) {
             continue;
         }
-        let edge = edge_at(pattern, place);
-        if !are_paired_forth(graph, pattern, depth - 1, place, edge, s, u, w) {
-            return false;
-        }
-        if !are_paired_back(graph, pattern, depth - 1, place, edge, s, u, w) {
+        if !are_paired_over(graph, pattern, depth - 1, place, s, u, w) {
             return false;
         }
     }
@@ -73,6 +69,7 @@ fn are_paired_along(
 }
 
 /// Whether two names are paired to a depth along the edge at a place, for each of its ends that is at slot `s`.
+#[cycle(paired)]
 fn are_paired_over(
     graph: &Graph,
     pattern: &Pattern,
@@ -107,7 +104,7 @@ pub(crate) fn unpaired_edge(
 ) -> Option<usize>
     requires depth { 0 < depth }
     requires here { PairedHere graph.now pattern.now s u w }
-    ensures some { IfSome result (λ _. ¬ (ArePairedExcept graph.now pattern.now None depth s u w)) }
+    ensures some { IfSome result (λ place. (place < length pattern.now.edges) × ¬ ((e : Edge) → slice_get pattern.now.edges place ≡ Some e → ArePairedAlong graph.now pattern.now (depth - 1) e s u w)) }
     ensures none { IfNone result (ArePairedExcept graph.now pattern.now None depth s u w) }
 {
     let count = edge_count(pattern);

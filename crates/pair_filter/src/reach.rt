@@ -64,6 +64,12 @@ fn is_to_ask(are_many: bool, memo: &Memo, key: usize, name: u32) -> bool {
     are_many && !memo.is_paired(key, name)
 }
 
+/// Whether a name is first in more than so many pairs. It is seen from one pair farther on, as the pairs ascend. Where they do
+/// not, it may be guessed wrong, which costs time alone.
+fn is_first_in(pairs: &[(u32, u32)], count: usize, name: u32) -> bool {
+    pairs.len() > count && pairs[count].0 == name
+}
+
 /// The place of the first key that may pair a name with another.
 fn first_place(
     graph: &Graph,
@@ -139,13 +145,8 @@ fn reach_of(
     }
 }
 
-/// Whether a name is first in more than so many pairs. It is seen from one pair farther on, as the pairs ascend. Where they do
-/// not, it may be guessed wrong, which costs time alone.
-fn is_first_in(pairs: &[(u32, u32)], count: usize, name: u32) -> bool {
-    pairs.len() > count && pairs[count].0 == name
-}
-
-/// The same for the name that is first in the first of some pairs.
+/// The keys from the first that may pair a name with another to the last, where the name is first in the first of some pairs. How
+/// many it is first in says what is worth while.
 pub(crate) fn reach_along(
     graph: &Graph,
     patterns: &[Pattern],

@@ -1,12 +1,12 @@
-use Rattle.std.proofs.Common.{Some, None, slice_get, ◌≡◌, refl, sym, true≢false}
+use Rattle.std.proofs.Common.{Some, slice_get, ◌≡◌, refl, sym, true≢false}
 use Rattle.chase_laws.specs.declared.pattern.Slot.TheVariants.{Entity}
-use Rattle.pair_filter.proofs.Steps.{except_any, except_none}
+use Rattle.pair_filter.proofs.Steps.{along_edge, except_none}
 use Rattle.pair_filter.proofs.keys.is_kept_by.Goals as goal
 
 pub returns-in-Some : goal.returns-in-Some
 returns-in-Some c = (
   (λ yes. absurd (true≢false (sym yes))),
-  (λ h. absurd (rw c.in-Some.is at c.unpaired_edge.ensures.some (except_any c.args.graph.now c.args.pattern.now None 2 0 c.args.a c.args.b h.paired))),
+  (λ h. absurd ((rw c.in-Some.is at c.unpaired_edge.ensures.some).1 (λ e at. along_edge c.args.graph.now c.args.pattern.now 2 1 0 c.args.a c.args.b refl h.paired c.in-Some.place e at))),
 )
 
 pub returns-in-None : goal.returns-in-None

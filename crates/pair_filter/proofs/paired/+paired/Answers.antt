@@ -3,7 +3,7 @@ use Rattle.chase_laws.specs.declared.pattern.Slot.{Slot}
 use Rattle.chase_laws.specs.declared.pattern.Slot.TheVariants.{Value, Fixed}
 use Rattle.chase_laws.specs.Graph.{HasRow}
 use Rattle.pair_filter.specs.Along.{ArePairedExcept, HavePaired, HasPartner, HaveCommonPartner}
-use Rattle.pair_filter.proofs.Steps.{left_alone, right_alone, paired_at_once, paired_by_edges, not_along, led_forth, led_back, have_paired_rows, same_value, same_constant, shares_value, contains_more}
+use Rattle.pair_filter.proofs.Steps.{left_alone, right_alone, paired_at_once, paired_by_edges, led_forth, led_back, have_paired_rows, same_value, same_constant, shares_value, contains_more}
 use Rattle.pair_filter.proofs.paired.+paired.Goals as goal
 
 pub are_paired_forth-returns : goal.are_paired_forth-returns
@@ -30,17 +30,11 @@ are_paired_back-returns t c =
       (λ h. c.have_paired.ensures.1 (rows.1 (h c.if-edge-s.false))),
     )
 
-pub are_paired_along-returns-then-not-are_paired_forth : goal.are_paired_along-returns-then-not-are_paired_forth
-are_paired_along-returns-then-not-are_paired_forth t c =
-    let none = not_along c.args.graph.now c.args.pattern.now c.args.skipped c.args.depth (c.args.depth - 1) c.args.s c.args.u c.args.w (omega (arith, c.if-depth-eq0.false)) c.loop-place.place c.edge_at-edge.result (λ e. true≢false (sym (c.is_skipped.ensures.1 e) ∙ c.if-is_skipped.false)) c.edge_at-edge.ensures.edge
-    (λ along. true≢false (sym (c.are_paired_forth.ensures.1 along.0) ∙ c.if-not-are_paired_forth.true)) in
-    ((λ f. absurd (true≢false (sym f))), (λ h. absurd (none h)))
-
-pub are_paired_along-returns-then-not-are_paired_back : goal.are_paired_along-returns-then-not-are_paired_back
-are_paired_along-returns-then-not-are_paired_back t c =
-    let none = not_along c.args.graph.now c.args.pattern.now c.args.skipped c.args.depth (c.args.depth - 1) c.args.s c.args.u c.args.w (omega (arith, c.if-depth-eq0.false)) c.loop-place.place c.edge_at-edge.result (λ e. true≢false (sym (c.is_skipped.ensures.1 e) ∙ c.if-is_skipped.false)) c.edge_at-edge.ensures.edge
-    (λ along. true≢false (sym (c.are_paired_back.ensures.1 along.1) ∙ c.if-not-are_paired_back.true)) in
-    ((λ f. absurd (true≢false (sym f))), (λ h. absurd (none h)))
+pub are_paired_along-returns-then-not-are_paired_over : goal.are_paired_along-returns-then-not-are_paired_over
+are_paired_along-returns-then-not-are_paired_over t c = (
+  (λ f. absurd (true≢false (sym f))),
+  (λ h. absurd (true≢false (sym (c.are_paired_over.ensures.1 (λ e at. h.along (c.args.depth - 1) c.loop-place.place e (omega (arith, c.if-depth-eq0.false)) (λ x. true≢false (sym (c.is_skipped.ensures.1 x) ∙ c.if-is_skipped.false)) at)) ∙ c.if-not-are_paired_over.true))),
+)
 
 pub are_paired_along-returns : goal.are_paired_along-returns
 are_paired_along-returns t c =

@@ -5,37 +5,40 @@ use Rattle.pair_filter.specs.Along.{ArePairedAlong, ArePairedExcept, HavePaired,
 use Rattle.pair_filter.proofs.paired.+paired.Given as goal
 
 abbrev pub decreases-are_paired : goal.decreases-are_paired
-decreases-are_paired l = 8 * l.depth + 1
+decreases-are_paired l = 9 * l.depth + 1
 
 abbrev pub decreases-are_paired_along : goal.decreases-are_paired_along
-decreases-are_paired_along l = 8 * l.depth
+decreases-are_paired_along l = 9 * l.depth
+
+abbrev pub decreases-are_paired_over : goal.decreases-are_paired_over
+decreases-are_paired_over l = 9 * l.depth + 8
 
 abbrev pub decreases-are_paired_forth : goal.decreases-are_paired_forth
-decreases-are_paired_forth l = 8 * l.depth + 7
+decreases-are_paired_forth l = 9 * l.depth + 7
 
 abbrev pub decreases-are_paired_back : goal.decreases-are_paired_back
-decreases-are_paired_back l = 8 * l.depth + 7
+decreases-are_paired_back l = 9 * l.depth + 7
 
 abbrev pub decreases-have_paired : goal.decreases-have_paired
-decreases-have_paired l = 8 * l.depth + 6
+decreases-have_paired l = 9 * l.depth + 6
 
 abbrev pub decreases-have_any_paired : goal.decreases-have_any_paired
-decreases-have_any_paired l = 8 * l.depth + 5
+decreases-have_any_paired l = 9 * l.depth + 5
 
 abbrev pub decreases-have_few_paired : goal.decreases-have_few_paired
-decreases-have_few_paired l = 8 * l.depth + 3
+decreases-have_few_paired l = 9 * l.depth + 3
 
 abbrev pub decreases-has_partner : goal.decreases-has_partner
-decreases-has_partner l = 8 * l.depth + 4
+decreases-has_partner l = 9 * l.depth + 4
 
 abbrev pub decreases-has_partner_by : goal.decreases-has_partner_by
-decreases-has_partner_by l = 8 * l.depth + 3
+decreases-has_partner_by l = 9 * l.depth + 3
 
 abbrev pub decreases-has_partner_among : goal.decreases-has_partner_among
-decreases-has_partner_among l = 8 * l.depth + 2
+decreases-has_partner_among l = 9 * l.depth + 2
 
 abbrev pub decreases-has_partner_in : goal.decreases-has_partner_in
-decreases-has_partner_in l = 8 * l.depth + 2
+decreases-has_partner_in l = 9 * l.depth + 2
 
 abbrev pub invariant-are_paired_along-loop-place : goal.invariant-are_paired_along-loop-place
 invariant-are_paired_along-loop-place l = (k : ℕ) (e : Edge) → k < l.place → l.skipped ≢ Some k → slice_get l.pattern.edges k ≡ Some e → ArePairedAlong l.graph l.pattern (l.depth - 1) e l.s l.u l.w

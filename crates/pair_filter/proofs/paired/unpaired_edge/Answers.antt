@@ -5,12 +5,10 @@ use Rattle.pair_filter.proofs.paired.unpaired_edge.Goals as goal
 use Rattle.pair_filter.proofs.paired.unpaired_edge.Goals.{else-first-count-via-then-first-count+else-not-are_paired_over, else-first-count-via-else-first-count}
 
 pub returns-then-not-are_paired_over-clause-some : goal.returns-then-not-are_paired_over-clause-some
-returns-then-not-are_paired_over-clause-some c = λ h.
-    true≢false (sym (c.are_paired_over.ensures.1 (λ e at. h.along (c.args.depth - 1) c.args.first e (omega (arith, c.requires.depth)) (λ x. absurd (cc)) at)) ∙ c.if-not-are_paired_over.true)
+returns-then-not-are_paired_over-clause-some c = (omega arith, (λ along. true≢false (sym (c.are_paired_over.ensures.1 along) ∙ c.if-not-are_paired_over.true)))
 
 pub returns-then-not-are_paired_over-2-clause-some : goal.returns-then-not-are_paired_over-2-clause-some
-returns-then-not-are_paired_over-2-clause-some c = λ h.
-    true≢false (sym (c.are_paired_over-in-loop-place.ensures.1 (λ e at. h.along (c.args.depth - 1) c.loop-place.place e (omega (arith, c.requires.depth)) (λ x. absurd (cc)) at)) ∙ c.if-not-are_paired_over-2.true)
+returns-then-not-are_paired_over-2-clause-some c = (omega arith, (λ along. true≢false (sym (c.are_paired_over-in-loop-place.ensures.1 along) ∙ c.if-not-are_paired_over-2.true)))
 
 pub loop-place-init : goal.loop-place-init
 loop-place-init c = record {

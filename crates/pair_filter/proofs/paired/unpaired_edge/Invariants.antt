@@ -1,4 +1,4 @@
-use Rattle.std.proofs.Common.{ℕ, Some, slice_get, length, ◌≡◌, ◌<◌, ◌-◌}
+use Rattle.std.proofs.Common.{ℕ, Some, slice_get, ◌≡◌, ◌<◌, ◌-◌}
 use Rattle.chase_laws.specs.declared.pattern.Edge.{Edge}
 use Rattle.pair_filter.specs.Along.{ArePairedAlong}
 use Rattle.pair_filter.proofs.paired.unpaired_edge.Given as goal
