@@ -9,9 +9,10 @@ ghost use Rattle.chase_laws.specs.Pairing.{ArePairedBy};
 ghost use Rattle.pair_filter.specs.Keys.{AreKeysOf};
 ghost use Rattle.pair_filter.specs.Selection.{IsSelection};
 
+use crate::cut::cut_at;
 use crate::keys::keys_of;
 use crate::memo::Memo;
-use crate::reach::{all_keys, reach_along};
+use crate::reach::{all_keys, is_for, reach_along};
 use chase_laws::Pattern;
 use chase_laws::laws::law_paired;
 use gk_base::NoMemory;
@@ -41,14 +42,14 @@ fn keep_alone(
     ensures kept { IfOk result (λ v. IsSelection (λ x. ArePairedBy graph.now patterns.now 2 x.0 x.1) pairs.now v.pairs.items) }
     ensures keys { IfOk result (λ v. AllZip (λ x range. AreKeysOf graph.now patterns.now range x.0 x.1) v.pairs.items v.keys.items) }
 {
-    let mut kept = Vec::new(alloc);
-    let mut keys = Vec::new(alloc);
+    let mut kept = Vec::with_capacity(alloc, pairs.len())?;
+    let mut keys = Vec::with_capacity(alloc, pairs.len())?;
     let mut reach = all_keys(patterns, 0);
     let mut memo = Memo::new(alloc, graph.names(), patterns.len(), pairs.len())?;
     for place in 0..pairs.len() {
         let pair = pairs[place];
-        if reach.name != pair.0 {
-            reach = reach_along(graph, patterns, pair.0, &pairs[place..], &memo);
+        if !is_for(&reach, pair) {
+            reach = reach_along(graph, patterns, pair, &pairs[place..], &memo);
         }
         let Some(range) = keys_of(graph, patterns, &reach, pair, &mut memo) else {
             continue;
@@ -59,8 +60,8 @@ fn keep_alone(
     Ok(KeptPairs { pairs: kept, keys })
 }
 
-/// The same. With two threads or more a longer run of pairs is cut in two halves, the threads are shared out among them, and
-/// what is kept of each is joined in order. Where a thread can't be started the caller does its work.
+/// The same. With two threads or more a longer run of pairs is cut in two where half of the work is done, the threads are shared
+/// out among the two, and what is kept of each is joined in order. Where a thread can't be started the caller does its work.
 #[cycle(halves)]
 fn keep_in_threads<R: Threads + Sync>(
     rt: &R,
@@ -76,9 +77,9 @@ fn keep_in_threads<R: Threads + Sync>(
     if threads < 2 || pairs.len() < FEW {
         return keep_alone(alloc, graph, patterns, pairs);
     }
-    let (below, above) = pairs.split_at(pairs.len() / 2);
     let theirs = threads / 2;
     let ours = threads - theirs;
+    let (below, above) = pairs.split_at(cut_at(graph, patterns, pairs, theirs, threads));
     let lower = move || -> Result<KeptPairs, NoMemory>
         requires { IsSync R.row }
         ensures { IfOk result (λ v. IsSelection (λ x. ArePairedBy graph.entry.now patterns.entry.now 2 x.0 x.1) below.entry.now v.pairs.items × AllZip (λ x range. AreKeysOf graph.entry.now patterns.entry.now range x.0 x.1) v.pairs.items v.keys.items) }

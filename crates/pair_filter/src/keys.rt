@@ -120,6 +120,7 @@ fn first_key(
 ) -> Option<usize>
     requires reach { IsReach graph.now patterns.now reach.now }
     requires name { reach.now.name ≡ pair.0 }
+    requires least { reach.now.least ≤ pair.1 }
     requires memo { IsMemo graph.now patterns.now memo.old }
     ensures memo { IsMemo graph.now patterns.now memo.new }
     ensures paired { IfSome result (λ key. ArePairedAt graph.now patterns.now key pair.0 pair.1) }
@@ -146,6 +147,7 @@ fn end_key(
 ) -> usize
     requires reach { IsReach graph.now patterns.now reach.now }
     requires name { reach.now.name ≡ pair.0 }
+    requires least { reach.now.least ≤ pair.1 }
     requires memo { IsMemo graph.now patterns.now memo.old }
     requires first { ArePairedAt graph.now patterns.now first pair.0 pair.1 }
     ensures memo { IsMemo graph.now patterns.now memo.new }
@@ -187,6 +189,7 @@ pub(crate) fn keys_of(
 ) -> Option<KeyRange>
     requires reach { IsReach graph.now patterns.now reach.now }
     requires name { reach.now.name ≡ pair.0 }
+    requires least { reach.now.least ≤ pair.1 }
     requires memo { IsMemo graph.now patterns.now memo.old }
     ensures memo { IsMemo graph.now patterns.now memo.new }
     ensures paired { IsSome result ↔ ArePairedBy graph.now patterns.now 2 pair.0 pair.1 }

@@ -6,11 +6,13 @@
 //! once which keys may pair it with any.
 //!
 //! - `keeping`: which pairs are kept
+//! - `cut`: where a run of pairs is cut for threads
 //! - `keys`: which keys may identify two names
 //! - `memo`: what is known of names under each key from pairs before
 //! - `peers`: the same under one key
 //! - `links`: names through which a key pairs all that it pairs with them
 //! - `reach`: which keys may pair a name with any other
+//! - `sharing`: whether a name shares a value with one behind it
 //! - `paired`: whether a key pairs two names
 //! - `alone`: whether a key pairs a name with itself, which it does wherever it pairs it with any
 //! - `here`: whether two names can go together at a slot
@@ -18,6 +20,7 @@
 #![tactic(auto)]
 
 mod alone;
+mod cut;
 mod here;
 mod keeping;
 mod keys;
@@ -27,5 +30,6 @@ mod paired;
 mod parts;
 mod peers;
 mod reach;
+mod sharing;
 
 pub use keeping::{KeptPairs, keep, keep_with_keys};

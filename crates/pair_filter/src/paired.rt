@@ -378,7 +378,7 @@ fn value_edge(pattern: &Pattern, skipped: Option<usize>, s: u8) -> Option<Edge>
 }
 
 /// Whether an edge leads from slot `s` to a value variable.
-fn leads_to_value(pattern: &Pattern, s: u8, edge: Edge) -> bool
+pub(crate) fn leads_to_value(pattern: &Pattern, s: u8, edge: Edge) -> bool
     requires { edge.to < length pattern.now.slots }
     ensures { IsTrue result → (edge.from ≡ s) × (slice_get pattern.now.slots edge.to ≡ Some Value) }
 {

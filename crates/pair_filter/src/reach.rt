@@ -1,7 +1,6 @@
-//! Which keys may pair a name with any other. It is asked of the name alone, and so once for a run of pairs in which it is
-//! first.
+//! Which keys may pair a name with others. It is asked of the name alone, and so once for a run of pairs in which it is first.
 
-ghost use Rattle.std.specs.Prelude.{◌≡◌, ◌<◌, ◌≤◌, ℕ, IsFalse, IfSome, IfNone, Some, length, slice_get};
+ghost use Rattle.std.specs.Prelude.{◌≡◌, ◌<◌, ◌≤◌, ℕ, IsTrue, IsFalse, IfSome, IfNone, Some, length, slice_get};
 ghost use Rattle.chase_laws.specs.Graph.{NumberedGraph};
 ghost use Rattle.chase_laws.specs.Shape.{Shape};
 ghost use Rattle.pair_filter.specs.Reaching.{IsReach, PairsWithNone};
@@ -9,6 +8,7 @@ ghost use Rattle.pair_filter.specs.Reaching.{IsReach, PairsWithNone};
 use crate::alone::is_alone;
 use crate::keys::DEPTH;
 use crate::memo::Memo;
+use crate::sharing::may_share;
 use chase_laws::{Pattern, Slot};
 use typed_graph::Graph;
 
@@ -18,10 +18,11 @@ const KEPT_RUN: usize = 2;
 /// In a run of no more pairs than these it costs more than it saves to ask which keys pair a name with itself.
 const ASKED_RUN: usize = 8;
 
-/// The keys that may pair a name with another: none outside of the places `first..end` does.
+/// The keys that may pair a name with another from `least` on: none outside of the places `first..end` does.
 #[derive(Clone, Copy)]
 pub(crate) struct Reach {
     pub name: u32,
+    pub least: u32,
     pub first: usize,
     pub end: usize,
     /// Whether the name is first in so many pairs that it pays to keep which of them a key pairs.
@@ -34,9 +35,11 @@ pub(crate) struct Reach {
 pub(crate) fn all_keys(patterns: &[Pattern], name: u32) -> Reach
     ensures reach { (G : NumberedGraph) → IsReach G patterns.now result }
     ensures name { result.name ≡ name }
+    ensures least { result.least ≡ 0 }
 {
     Reach {
         name,
+        least: 0,
         first: 0,
         end: patterns.len(),
         is_kept: false,
@@ -44,13 +47,24 @@ pub(crate) fn all_keys(patterns: &[Pattern], name: u32) -> Reach
     }
 }
 
-/// Whether a key may pair a name with another: it designates a type of it and, if that is asked, pairs it with itself to depth 2.
-/// Where it does not, it pairs it with no name.
-fn may_pair(graph: &Graph, pattern: &Pattern, name: u32, is_asked: bool) -> bool
-    ensures { IsFalse result → PairsWithNone graph.now pattern.now name }
+/// Whether a key may pair a name with another from `least` on: it designates a type of it, its edge at the place `edge` may lead
+/// to a value of both and, if that is asked, it pairs the name with itself to depth 2. Where it does not, it pairs it with no such
+/// name. The edge is to be the one that has ruled out two names last: it is likely to rule out all that the name is paired with.
+fn may_pair(
+    graph: &Graph,
+    pattern: &Pattern,
+    edge: usize,
+    name: u32,
+    least: u32,
+    is_asked: bool,
+) -> bool
+    ensures { IsFalse result → PairsWithNone graph.now pattern.now name least }
 {
     let designated = pattern.designated_type();
     if !graph.fits_slot(Slot::Entity(designated), name) {
+        return false;
+    }
+    if !may_share(graph, pattern, edge, name, least) {
         return false;
     }
     if !is_asked {
@@ -75,16 +89,18 @@ fn first_place(
     graph: &Graph,
     patterns: &[Pattern],
     name: u32,
+    least: u32,
     are_many: bool,
     memo: &Memo,
 ) -> Option<usize>
     ensures within { IfSome result (λ first. first < length patterns.now) }
-    ensures before { IfSome result (λ first. (key : ℕ) (Q : Shape) → key < first → slice_get patterns.now key ≡ Some Q → PairsWithNone graph.now Q name) }
-    ensures none { IfNone result ((key : ℕ) (Q : Shape) → slice_get patterns.now key ≡ Some Q → PairsWithNone graph.now Q name) }
+    ensures before { IfSome result (λ first. (key : ℕ) (Q : Shape) → key < first → slice_get patterns.now key ≡ Some Q → PairsWithNone graph.now Q name least) }
+    ensures none { IfNone result ((key : ℕ) (Q : Shape) → slice_get patterns.now key ≡ Some Q → PairsWithNone graph.now Q name least) }
 {
     for key in 0..patterns.len() {
         let is_asked = is_to_ask(are_many, memo, key, name);
-        if may_pair(graph, &patterns[key], name, is_asked) {
+        let edge = memo.first_edge(key);
+        if may_pair(graph, &patterns[key], edge, name, least, is_asked) {
             return Some(key);
         }
     }
@@ -96,18 +112,20 @@ fn end_place(
     graph: &Graph,
     patterns: &[Pattern],
     name: u32,
+    least: u32,
     are_many: bool,
     memo: &Memo,
     first: usize,
 ) -> usize
     requires { first < length patterns.now }
     ensures within { result ≤ length patterns.now }
-    ensures behind { (key : ℕ) (Q : Shape) → result ≤ key → slice_get patterns.now key ≡ Some Q → PairsWithNone graph.now Q name }
+    ensures behind { (key : ℕ) (Q : Shape) → result ≤ key → slice_get patterns.now key ≡ Some Q → PairsWithNone graph.now Q name least }
 {
     let behind = first + 1;
     for key in (behind..patterns.len()).rev() {
         let is_asked = is_to_ask(are_many, memo, key, name);
-        if may_pair(graph, &patterns[key], name, is_asked) {
+        let edge = memo.first_edge(key);
+        if may_pair(graph, &patterns[key], edge, name, least, is_asked) {
             return key + 1;
         }
     }
@@ -119,25 +137,29 @@ fn reach_of(
     graph: &Graph,
     patterns: &[Pattern],
     name: u32,
+    least: u32,
     is_kept: bool,
     is_asked: bool,
     memo: &Memo,
 ) -> Reach
     ensures reach { IsReach graph.now patterns.now result }
     ensures name { result.name ≡ name }
+    ensures least { result.least ≡ least }
 {
-    let Some(first) = first_place(graph, patterns, name, is_asked, memo) else {
+    let Some(first) = first_place(graph, patterns, name, least, is_asked, memo) else {
         return Reach {
             name,
+            least,
             first: 0,
             end: 0,
             is_kept,
             is_asked,
         };
     };
-    let end = end_place(graph, patterns, name, is_asked, memo, first);
+    let end = end_place(graph, patterns, name, least, is_asked, memo, first);
     Reach {
         name,
+        least,
         first,
         end,
         is_kept,
@@ -145,19 +167,27 @@ fn reach_of(
     }
 }
 
-/// The keys from the first that may pair a name with another to the last, where the name is first in the first of some pairs. How
-/// many it is first in says what is worth while.
+/// Whether these keys are for a pair: for its first name and for names from its second on, or from one before it.
+pub(crate) fn is_for(reach: &Reach, pair: (u32, u32)) -> bool
+    ensures name { IsTrue result → reach.now.name ≡ pair.0 }
+    ensures least { IsTrue result → reach.now.least ≤ pair.1 }
+{
+    reach.name == pair.0 && reach.least <= pair.1
+}
+
+/// The keys for a pair that is the first of some pairs. In how many of them its first name is first says what is worth while.
 pub(crate) fn reach_along(
     graph: &Graph,
     patterns: &[Pattern],
-    name: u32,
+    pair: (u32, u32),
     pairs: &[(u32, u32)],
     memo: &Memo,
 ) -> Reach
     ensures reach { IsReach graph.now patterns.now result }
-    ensures name { result.name ≡ name }
+    ensures name { result.name ≡ pair.0 }
+    ensures least { result.least ≡ pair.1 }
 {
-    let is_kept = is_first_in(pairs, KEPT_RUN, name);
-    let is_asked = is_first_in(pairs, ASKED_RUN, name);
-    reach_of(graph, patterns, name, is_kept, is_asked, memo)
+    let is_kept = is_first_in(pairs, KEPT_RUN, pair.0);
+    let is_asked = is_first_in(pairs, ASKED_RUN, pair.0);
+    reach_of(graph, patterns, pair.0, pair.1, is_kept, is_asked, memo)
 }

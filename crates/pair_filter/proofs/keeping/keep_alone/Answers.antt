@@ -6,13 +6,13 @@ use Rattle.paired_search.specs.declared.key_range.KeyRange.{KeyRange}
 use Rattle.pair_filter.specs.Keys.{AreKeysOf}
 use Rattle.pair_filter.proofs.Selections.{selection_push, selection_skip}
 use Rattle.pair_filter.proofs.keeping.keep_alone.Goals as goal
-use Rattle.pair_filter.proofs.keeping.keep_alone.Goals.{then-reach-pair, else-reach-pair}
+use Rattle.pair_filter.proofs.keeping.keep_alone.Goals.{then-not-is_for, else-not-is_for}
 
 -- nothing yet
 pub loop-place-init : goal.loop-place-init
 loop-place-init c = record {
-  kept = c.new-kept.ensures.items;
-  keys = rw (c.new-kept.ensures.items, c.new-keys.ensures.items) tt;
+  kept = c.in_ok-kept.ensures.items;
+  keys = rw (c.in_ok-kept.ensures.items, c.in_ok-keys.ensures.items) tt;
   reach = c.all_keys-reach.ensures.reach c.args.graph.now;
   memo = c.in_ok-memo.ensures c.args.graph.now c.args.patterns.now;
 }
@@ -28,9 +28,9 @@ loop-place-preserved-in_default c =
       kept = rw (take_more xs i (0, 0) c.loop-place-test.true)
           (selection_skip P (take i xs) c.loop-place.kept.items x c.loop-place.invariant.kept (λ h. true≢false (sym (c.in_default.ensures.paired.1 h))));
       keys = c.loop-place.invariant.keys;
-      reach = elim c.if-reach-pair.branch [
-        | then-reach-pair w ↦ rw w.reach-is w.reach_along-reach.ensures.reach
-        | else-reach-pair w ↦ rw w.reach-is c.loop-place.invariant.reach
+      reach = elim c.if-not-is_for.branch [
+        | then-not-is_for w ↦ rw w.reach-is w.reach_along-reach.ensures.reach
+        | else-not-is_for w ↦ rw w.reach-is c.loop-place.invariant.reach
       ];
       memo = c.in_default.ensures.memo;
     }
@@ -48,9 +48,9 @@ loop-place-preserved c =
           (selection_push P (take i xs) c.loop-place.kept.items x c.loop-place.invariant.kept (c.in-Some.ensures.paired.0 refl));
       keys = rw (c.in_ok-push.ensures.items, c.in_ok-push-2.ensures.items)
           (all_zipped_more R c.loop-place.kept.items c.loop-place.keys.items x c.in-Some.range c.loop-place.invariant.keys c.in-Some.ensures.keys);
-      reach = elim c.if-reach-pair.branch [
-        | then-reach-pair w ↦ rw w.reach-is w.reach_along-reach.ensures.reach
-        | else-reach-pair w ↦ rw w.reach-is c.loop-place.invariant.reach
+      reach = elim c.if-not-is_for.branch [
+        | then-not-is_for w ↦ rw w.reach-is w.reach_along-reach.ensures.reach
+        | else-not-is_for w ↦ rw w.reach-is c.loop-place.invariant.reach
       ];
       memo = c.in-Some.ensures.memo;
     }

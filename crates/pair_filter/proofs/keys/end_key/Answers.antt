@@ -7,7 +7,7 @@ use Rattle.pair_filter.proofs.keys.end_key.Goals as goal
 
 pub loop-key-init : goal.loop-key-init
 loop-key-init c = record {
-  idle = λ key Q le at. subst (λ n. IsIdle c.args.graph.now Q n c.args.pair.1) c.requires.name (c.requires.reach.behind key Q le at c.args.pair.1).idle;
+  idle = λ key Q le at. subst (λ n. IsIdle c.args.graph.now Q n c.args.pair.1) c.requires.name (c.requires.reach.behind key Q le at c.args.pair.1 c.requires.least).idle;
   missing = λ t e. absurd (cc);
   memo = c.requires.memo;
 }

@@ -8,7 +8,7 @@ use Rattle.pair_filter.proofs.keys.first_key.Goals as goal
 pub loop-key-init : goal.loop-key-init
 loop-key-init c =
     record {
-      none = λ key Q lt at. subst (λ n. IsRuledOut c.args.graph.now Q n c.args.pair.1) c.requires.name (c.requires.reach.before key Q lt at c.args.pair.1);
+      none = λ key Q lt at. subst (λ n. IsRuledOut c.args.graph.now Q n c.args.pair.1) c.requires.name (c.requires.reach.before key Q lt at c.args.pair.1 c.requires.least);
       missing = λ t e. absurd (cc);
       memo = c.requires.memo;
     }
@@ -33,6 +33,6 @@ returns-clause-none c = λ paired.
     let out : IsRuledOut c.args.graph.now paired.pattern c.args.pair.0 b = elim (cases_lt paired.key c.loop-key.key) [
       | inl before ↦ c.loop-key.invariant.none paired.key paired.pattern before paired.found
       | inr from ↦ subst (λ n. IsRuledOut c.args.graph.now paired.pattern n b) c.requires.name
-          (c.requires.reach.behind paired.key paired.pattern (omega (arith, c.loop-key-test.false)) paired.found b)
+          (c.requires.reach.behind paired.key paired.pattern (omega (arith, c.loop-key-test.false)) paired.found b c.requires.least)
     ] in
     out.unpaired (record { left = paired.left; right = paired.right; paired = paired.paired })

@@ -11,7 +11,7 @@ loop-key-preserved c =
     let K = c.args.patterns.now in
     let key : ℕ = c.loop-key.key - 1 in
     let within : key < length K = omega arith in
-    one_less K (λ R. PairsWithNone c.args.graph.now R c.args.name) key Q
+    one_less K (λ R. PairsWithNone c.args.graph.now R c.args.name c.args.least) key Q
     (slice_get-get_or K key Q within ∙ ap Some (sym c.index-patterns-key.is))
     (λ k R le at. c.loop-key.invariant k R (omega arith) at) (c.may_pair.ensures c.if-may_pair.false)
 

@@ -5,4 +5,4 @@ use Rattle.pair_filter.proofs.reach.end_place.Given as goal
 
 -- each key from there on pairs the name with none
 abbrev pub invariant-loop-key : goal.invariant-loop-key
-invariant-loop-key l = (key : ℕ) (Q : Shape) → l.key ≤ key → slice_get l.patterns key ≡ Some Q → PairsWithNone l.graph Q l.name
+invariant-loop-key l = (key : ℕ) (Q : Shape) → l.key ≤ key → slice_get l.patterns key ≡ Some Q → PairsWithNone l.graph Q l.name l.least

@@ -9,7 +9,7 @@ pub loop-key-preserved : goal.loop-key-preserved
 loop-key-preserved c =
     let Q = c.index-patterns-key.result in
     let K = c.args.patterns.now in
-    one_more K (λ R. PairsWithNone c.args.graph.now R c.args.name) c.loop-key.key Q
+    one_more K (λ R. PairsWithNone c.args.graph.now R c.args.name c.args.least) c.loop-key.key Q
     (slice_get-get_or K c.loop-key.key Q (omega arith) ∙ ap Some (sym c.index-patterns-key.is))
     c.loop-key.invariant (c.may_pair.ensures c.if-may_pair.false)
 

@@ -5,14 +5,21 @@ use Rattle.pair_filter.proofs.reach.may_pair.Goals as goal
 
 -- a name that lacks the type is paired with none
 pub returns-then-not-fits_slot : goal.returns-then-not-fits_slot
-returns-then-not-fits_slot c = λ no other.
+returns-then-not-fits_slot c = λ no other from.
     let t = c.designated_type-designated in
     missing_out c.args.graph.now c.args.pattern.now c.args.name other t.result t.ensures
     (λ both. true≢false (sym (c.fits_slot.ensures.1 both.0) ∙ c.if-not-fits_slot.true))
 
+-- nor is one that shares no value
+pub returns-then-not-may_share : goal.returns-then-not-may_share
+returns-then-not-may_share c = λ no other from.
+    let t = c.designated_type-designated in
+    unpaired_out c.args.graph.now c.args.pattern.now c.args.name other t.result t.ensures
+    (λ h. c.may_share.ensures c.if-not-may_share.true other from h.paired)
+
 -- what is paired with any name is paired with itself
 pub returns : goal.returns
-returns c = λ no other.
+returns c = λ no other from.
     let G = c.args.graph.now in
     let Q = c.args.pattern.now in
     let name = c.args.name in
