@@ -1,13 +1,15 @@
 #!/usr/bin/env python3
-"""Times parts of the matcher by themselves: the candidate pairs, and the classes.
+"""Times parts of the matcher by themselves: the candidate pairs, the classes, and the report.
 
 Usage: bench/parts.py
 
 Candidate pairs: entities of one type, of which 2, 10 or 1,000 share each value, and with a second value that two share.
 Classes: names that are joined one by one in random order into one class.
+Report: 330,000 names, of which 82,500 stand in classes of two, by 1, 2 and 4 threads on as many processors.
 """
 
 import pathlib
+import statistics
 import subprocess
 import tempfile
 
@@ -16,6 +18,8 @@ from building import build
 SEEDS = [(10 ** 5, 2, "one"), (10 ** 6, 2, "one"), (10 ** 5, 10, "one"), (10 ** 6, 10, "one"), (10 ** 5, 1000, "one"),
          (10 ** 5, 1000, "two"), (10 ** 6, 1000, "two")]
 BOOKS = [10 ** 5, 10 ** 6]
+PROCESSORS = {1: "0", 2: "0,1", 4: "0-3"}  # by the number of threads
+TIMES = 20
 
 
 def best(command):
@@ -37,6 +41,14 @@ def main():
         for names in BOOKS:
             entries, relabelled, took = best([program, names])
             print(f"{names:>10} {entries:>10} {relabelled:>11} {took:>8} {took * 10 ** 6 // relabelled:>11}")
+    with tempfile.TemporaryDirectory() as name:
+        program = build(pathlib.Path(name), "report_times", ["term_text", "term_table", "gk_base", "anyhow"])
+        print("\n{:>10} {:>10} {:>8} {:>8}".format("threads", "bytes", "least ms", "middle"))
+        for threads, processors in PROCESSORS.items():
+            command = ["taskset", "-c", processors, str(program), str(threads), str(TIMES)]
+            numbers = [int(word) for word in subprocess.run(command, check=True, capture_output=True, text=True).stdout.split()]
+            took = [microseconds / 1000 for microseconds in numbers[::2]]
+            print(f"{threads:>10} {numbers[1]:>10} {min(took):>8.1f} {statistics.median(took):>8.1f}")
 
 
 if __name__ == "__main__":
