@@ -60,8 +60,9 @@ fn keep_alone(
     Ok(KeptPairs { pairs: kept, keys })
 }
 
-/// The same. With two threads or more a longer run of pairs is cut in two where half of the work is done, the threads are shared
-/// out among the two, and what is kept of each is joined in order. Where a thread can't be started the caller does its work.
+/// The same. With two threads or more the threads are shared out among the two parts of a longer run of pairs, which is cut so that
+/// each part seems to have its threads' share of the work, and what is kept of each is joined in order. Where a thread can't be
+/// started the caller does its work.
 #[cycle(halves)]
 fn keep_in_threads<R: Threads + Sync>(
     rt: &R,

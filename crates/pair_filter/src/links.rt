@@ -89,7 +89,7 @@ fn is_link_forth(graph: &Graph, pattern: &Pattern, depth: u8, edge: Edge, s: u8,
     requires { edge.to < length pattern.now.slots }
     ensures { IsTrue result → LinksForth graph.now pattern.now depth edge s n }
 {
-    if edge.from != s {
+    if pairs_all_forth(pattern, depth, edge, s) {
         return true;
     }
     are_links(graph, pattern, depth, edge.to, graph.outgoing(n, edge.pred))
@@ -101,7 +101,7 @@ fn is_link_back(graph: &Graph, pattern: &Pattern, depth: u8, edge: Edge, s: u8, 
     requires { edge.from < length pattern.now.slots }
     ensures { IsTrue result → LinksBack graph.now pattern.now depth edge s n }
 {
-    if edge.to != s {
+    if pairs_all_back(pattern, depth, edge, s) {
         return true;
     }
     are_links(
@@ -119,9 +119,6 @@ fn are_links(graph: &Graph, pattern: &Pattern, depth: u8, s: u8, names: &[u32]) 
     requires { s < length pattern.now.slots }
     ensures { IsTrue result → LinksAmong graph.now pattern.now depth s names.now }
 {
-    if pairs_all(pattern, depth, s) {
-        return true;
-    }
     match names {
         [only] => is_link(graph, pattern, depth, s, *only),
         _ => false,

@@ -22,6 +22,7 @@ const ASKED_RUN: usize = 8;
 #[derive(Clone, Copy)]
 pub(crate) struct Reach {
     pub name: u32,
+    /// The least second name that this holds for.
     pub least: u32,
     pub first: usize,
     pub end: usize,
