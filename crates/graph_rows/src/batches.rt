@@ -1,7 +1,8 @@
 //! Reading and numbering at once: while the triples of one batch of pieces are numbered in a second thread, the pieces of the
 //! next are read and judged in the caller's. Where more threads may be used, they help the second one to look the terms up.
 
-ghost use Rattle.std.specs.Prelude.{◌≡◌, ◌+◌, ◌*◌, ◌<◌, ◌≤◌, ◌^◌, ◌++◌, [], List, length, vec_len, IsOk, OnOk};
+ghost use Rattle.std.specs.Prelude.{◌≡◌, ◌+◌, ◌*◌, ◌<◌, ◌≤◌, ◌^◌, ◌++◌, [], List, length, vec_len, IsOk, IsErr, OnOk, Err};
+ghost use Rattle.gk_base.specs.declared.stop.Stop.TheVariants as stop;
 ghost use Rattle.gk_base.specs.declared.term.Triple.{Triple as AnyTriple};
 ghost use Rattle.nt_reader.specs.Kept.{HasRead};
 ghost use Rattle.graph_rows.specs.Rows.{StandFor, GoOn, LeaveRoom};
@@ -9,8 +10,7 @@ ghost use Rattle.graph_rows.specs.Feeding.{FeedsBatch, FeedsAll};
 
 use crate::pieces::feed_next;
 use crate::rows::Rows;
-use crate::second_reader::{ReadRear, SecondReader, read_rears};
-use crossbeam_channel::{Receiver, Sender, unbounded};
+use crate::second_reader::{SecondReader, both_sides, read_rears};
 use gk_base::{NoMemory, ReadRefusal};
 use gk_io::{FileStop, Shelf};
 use nt_reader::Reader;
@@ -57,6 +57,21 @@ fn feed_batch<S: Shelf, R: Wait>(
     Ok(false)
 }
 
+/// The answer where one batch was numbered while another was fed: what stops the reading, whatever became of the numbering, or
+/// else what stops the numbering.
+fn answer_of(
+    numbered: Result<(), NoMemory>,
+    fed: Result<bool, FileStop<ReadRefusal>>,
+) -> Result<bool, FileStop<ReadRefusal>>
+    ensures done { IsOk numbered → result ≡ fed }
+    ensures stopped { IsErr fed → result ≡ fed }
+    ensures wanting { IsErr numbered → IsOk fed → result ≡ Err stop.NoMemory }
+{
+    let at_end = fed?;
+    numbered?;
+    Ok(at_end)
+}
+
 /// Numbers these triples, behind those that came before, while the next batch is read and fed. It leaves the list empty, and
 /// answers whether the file is at its end. What stops the reading is the answer, whatever became of the numbering.
 fn number_and_feed<S: Shelf, R: Threads + Wait + Sync>(
@@ -91,9 +106,7 @@ fn number_and_feed<S: Shelf, R: Threads + Wait + Sync>(
         { rows.add(rt, theirs, triples) },
         &mut || feed_batch(rt, shelf, buf, second, reader, size),
     );
-    let at_end = fed?;
-    numbered?;
-    Ok(at_end)
+    answer_of(numbered, fed)
 }
 
 /// Reads on to the end of the file. The triples that a batch ends are numbered, behind those that are there, while the next
@@ -182,14 +195,8 @@ pub(crate) fn feed_with_second<S: Shelf, R: Threads + Wait + Sync>(
     ensures limits { reader.new.limits ≡ reader.old.limits }
     ensures feeds { FeedsAll S.Shelf shelf.old shelf.new reader.old.limits reader.new (GoOn rows.old rows.new) result }
 {
-    let (rears, to_read): (Sender<Vec<u8>>, Receiver<Vec<u8>>) = unbounded(alloc)?;
-    let (send_back, read): (Sender<ReadRear>, Receiver<ReadRear>) = unbounded(alloc)?;
-    let mut second = Some(SecondReader {
-        alloc,
-        rears,
-        read,
-        waiting: 0,
-    });
+    let (second, to_read, send_back) = both_sides(alloc)?;
+    let mut second = Some(second);
     let others = threads.saturating_sub(1);
     join_mut(
         rt,

@@ -9,8 +9,8 @@ ghost use Rattle.gk_base.specs.declared.term.Triple.{Triple as AnyTriple};
 ghost use Rattle.nt_reader.specs.File.{IsOpen};
 ghost use Rattle.nt_reader.specs.Kept.{HasRead};
 
-use crossbeam_channel::{Receiver, Sender, TryRecvError};
-use gk_base::{Limits, ReadStop};
+use crossbeam_channel::{Receiver, Sender, TryRecvError, unbounded};
+use gk_base::{Limits, NoMemory, ReadStop};
 use nt_reader::Reader;
 use std::alloc::Global;
 use std::hint::spin_loop;
@@ -133,11 +133,26 @@ fn part_from(piece: &[u8], from: usize) -> (usize, usize)
 /// The caller's side of a second thread that reads. When it is dropped, that thread ends.
 #[derive(Drop)]
 pub(crate) struct SecondReader {
-    pub(crate) alloc: Global,
-    pub(crate) rears: Sender<Vec<u8>>,
-    pub(crate) read: Receiver<ReadRear>,
+    alloc: Global,
+    rears: Sender<Vec<u8>>,
+    read: Receiver<ReadRear>,
     /// How many rears were sent that have not come back.
-    pub(crate) waiting: u32,
+    waiting: u32,
+}
+
+/// The caller's side of a second thread that reads, and where the thread receives rears and sends them back.
+pub(crate) fn both_sides(
+    alloc: Global,
+) -> Result<(SecondReader, Receiver<Vec<u8>>, Sender<ReadRear>), NoMemory> {
+    let (rears, to_read): (Sender<Vec<u8>>, Receiver<Vec<u8>>) = unbounded(alloc)?;
+    let (send_back, read): (Sender<ReadRear>, Receiver<ReadRear>) = unbounded(alloc)?;
+    let second = SecondReader {
+        alloc,
+        rears,
+        read,
+        waiting: 0,
+    };
+    Ok((second, to_read, send_back))
 }
 
 impl SecondReader {
