@@ -91,16 +91,33 @@ numbers_agree names slots left right = each_slot (λ at slot. numbers_agree_at n
 abbrev pub numbers_lead_there : List (ℕ × ℕ) → StepNumbers → SupportShape → Bool
 numbers_lead_there ends step support = links_lead nat_eq ends (places_of support.steps) (slice_index step.left support.slot) (slice_index step.right support.slot)
 
--- the least reason against a step with this pattern, where the earlier steps have these ends
+-- The least reasons against a step with this pattern follow, where the earlier steps have these ends: from the last tests on.
+
+-- from the tests of its supports on
+abbrev pub reason_from_supports : List (ℕ × ℕ) → StepNumbers → Option Reason
+reason_from_supports ends step =
+    reason_unless (list_all (are_earlier (length ends)) step.supports) SupportNotEarlier
+    (reason_unless (list_all (numbers_lead_there ends step) step.supports) SupportDoesNotLeadThere
+    None)
+
+-- from the test of its values on
+abbrev pub reason_from_values : List Term → List (ℕ × ℕ) → StepNumbers → Shape → Option Reason
+reason_from_values names ends step Q =
+    reason_unless (numbers_agree names Q.slots step.left step.right) ValueDiffers
+    (reason_from_supports ends step)
+
+-- from the test of kinds on
+abbrev pub reason_from_kinds : List (List ℕ) → List Term → ℕ → List (ℕ × ℕ) → StepNumbers → Shape → Option Reason
+reason_from_kinds rows names kind ends step Q =
+    reason_unless (numbers_have_kinds rows names kind Q.slots step.left && numbers_have_kinds rows names kind Q.slots step.right) WrongKindOrType
+    (reason_unless (numbers_have_images rows Q.edges step.left && numbers_have_images rows Q.edges step.right) TripleMissing
+    (reason_unless (numbers_are_constants Q.slots step.left && numbers_are_constants Q.slots step.right) ConstantDiffers
+    (reason_from_values names ends step Q)))
+
+-- from the first test on
 abbrev pub number_reason : List (List ℕ) → List Bool → List Term → ℕ → List (ℕ × ℕ) → StepNumbers → Shape → Option Reason
 number_reason rows known names kind ends step Q =
     reason_unless (numbers_have_shape Q step) WrongShape
     (reason_unless (numbers_are_known known step.left && numbers_are_known known step.right) TermNotInTheGraph
     (reason_unless (all_differ nat_eq step.left && all_differ nat_eq step.right) TermTwice
-    (reason_unless (numbers_have_kinds rows names kind Q.slots step.left && numbers_have_kinds rows names kind Q.slots step.right) WrongKindOrType
-    (reason_unless (numbers_have_images rows Q.edges step.left && numbers_have_images rows Q.edges step.right) TripleMissing
-    (reason_unless (numbers_are_constants Q.slots step.left && numbers_are_constants Q.slots step.right) ConstantDiffers
-    (reason_unless (numbers_agree names Q.slots step.left step.right) ValueDiffers
-    (reason_unless (list_all (are_earlier (length ends)) step.supports) SupportNotEarlier
-    (reason_unless (list_all (numbers_lead_there ends step) step.supports) SupportDoesNotLeadThere
-    None))))))))
+    (reason_from_kinds rows names kind ends step Q)))
