@@ -71,6 +71,54 @@ fn resumed<'a>(alloc: Global, setup: &'a Setup, journal: &[Entry]) -> Result<Cha
     Ok(chase)
 }
 
+/// The chase of a setup to its end, in which these identifications are entered and are not searched.
+fn chase_from<R: Threads + Wait + Sync, G: Gate>(
+    rt: &R,
+    alloc: Global,
+    setup: &Setup,
+    old: &[Entry],
+    workers: u32,
+    gate: &G,
+) -> Result<Matched, NoMemory>
+    requires derivation { IsDerivation setup.now.task.graph setup.now.task.patterns old.now }
+    requires lean { IsLean old.now }
+    requires below { All (λ e. e.a < e.b) old.now }
+    requires workers { (0 < workers) × (workers ≤ 64) }
+    ensures begins { IfOk result (λ m. (more : List Entry) × (m.journal.items ≡ old.now ++ more)) }
+    ensures journal { IfOk result (λ m. IsFinishedJournal setup.now.task.graph setup.now.task.patterns m.journal.items) }
+    ensures classes { IfOk result (λ m. AreClasses setup.now.task.graph setup.now.task.patterns m.labels.items) }
+{
+    let chase = resumed(alloc, setup, old)?;
+    chase_on(rt, alloc, chase, workers, gate)
+}
+
+/// The whole chase of a graph with the patterns, in which these identifications are entered and are not searched.
+fn second_chase<R: Threads + Wait + Sync, G: Gate>(
+    rt: &R,
+    alloc: Global,
+    both: Graph,
+    patterns: Vec<Pattern>,
+    limit: u64,
+    old: &[Entry],
+    workers: u32,
+    gate: &G,
+) -> Result<Matched, SeedStop>
+    requires limit { limit < 2 ^ 32 }
+    requires few { length patterns.items < 2 ^ 32 }
+    requires derivation { IsDerivation both patterns.items old.now }
+    requires lean { IsLean old.now }
+    requires below { All (λ e. e.a < e.b) old.now }
+    requires workers { (0 < workers) × (workers ≤ 64) }
+    ensures begins { IfOk result (λ m. (more : List Entry) × (m.journal.items ≡ old.now ++ more)) }
+    ensures journal { IfOk result (λ m. IsFinishedJournal both patterns.items m.journal.items) }
+    ensures classes { IfOk result (λ m. AreClasses both patterns.items m.labels.items) }
+    ensures no_more { OnOk result (¬ (HasMoreCandidates both patterns.items limit)) }
+    ensures stop { IfErr result (IsRightStop both patterns.items limit) }
+{
+    let Prepared { setup, .. } = prepare(rt, alloc, workers, both, patterns, limit)?;
+    Ok(chase_from(rt, alloc, &setup, old, workers, gate)?)
+}
+
 /// Chases a graph, and then a graph that has all rows of the first and is else equal: what was identified over the first is
 /// entered again and is not searched, and the chase goes on from there. So the whole journal begins with the old one, and
 /// each of the two is a lean derivation over its graph that no step goes beyond. The labels are equal exactly where the
@@ -102,8 +150,6 @@ pub fn grow<R: Threads + Wait + Sync, G: Gate>(
 {
     law_rows();
     let (old, patterns) = first_chase(rt, alloc, first, patterns, limit, workers, gate)?;
-    let Prepared { setup, .. } = prepare(rt, alloc, workers, both, patterns, limit)?;
-    let chase = resumed(alloc, &setup, &old)?;
-    let now = chase_on(rt, alloc, chase, workers, gate)?;
+    let now = second_chase(rt, alloc, both, patterns, limit, &old, workers, gate)?;
     Ok(Grown { old, now })
 }
