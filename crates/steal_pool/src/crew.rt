@@ -1,7 +1,9 @@
 //! A crew: workers that are ready to share a chase.
 
 ghost use Rattle.std.specs.Prelude.{◌≡◌, ◌<◌, ◌≤◌, ℕ, All, IfOk, IfErr, length, vec_len, vec_capacity};
+ghost use Rattle.chase_laws.specs.Core.{name_count};
 ghost use Rattle.chase_core.specs.Setup.{Preparation};
+ghost use Rattle.turn_lock.specs.Handles.{opened, seats_of};
 ghost use Rattle.steal_pool.specs.Bases.{pair_count, widest_of, board_of};
 ghost use Rattle.steal_pool.specs.CrewMembers.{IsCrewMember, AllOutWith};
 ghost use Rattle.steal_pool.specs.Workspaces.{IsWorkspace};
@@ -13,7 +15,7 @@ use crate::workspace::Workspace;
 use crate::workspaces::{batch_size, workspaces};
 use chase_core::Chase;
 use gk_base::NoMemory;
-use label_board::Board;
+use label_board::{Board, Scribe};
 use std::alloc::Global;
 use std::marker::Model;
 use turn_lock::{Pass, TurnLock};
@@ -67,6 +69,79 @@ fn members_of<'a>(
     }
 }
 
+/// What a crew needs besides its lock.
+struct CrewParts<'a> {
+    board: Board,
+    scribe: Scribe,
+    thieves: Vec<Thief>,
+    workspaces: Vec<Workspace>,
+    /// Room for the members.
+    members: Vec<CrewMember<Shared<'a>>>,
+}
+
+/// What a crew of so many workers over a chase needs besides its lock.
+fn crew_parts<'a>(alloc: Global, chase: &Chase<'a>, workers: u32) -> Result<CrewParts<'a>, NoMemory>
+    requires { (0 < workers) × (workers ≤ 64) }
+    ensures names { IfOk result (λ p. p.board.names ≡ name_count chase.now.setup.task) }
+    ensures scribe { IfOk result (λ p. p.scribe.board ≡ p.board.id) }
+    ensures posted { IfOk result (λ p. p.scribe.posted ≡ chase.now.book.journal) }
+    ensures shown { IfOk result (λ p. p.scribe.shown ≡ chase.now.book.labels) }
+    ensures count { IfOk result (λ p. length p.workspaces.items ≡ workers) }
+    ensures workspaces { IfOk result (λ p. All (IsWorkspace (length chase.now.setup.task.pairs) chase.now.setup.widest p.board p.thieves.items) p.workspaces.items) }
+    ensures room { IfOk result (λ p. (vec_len p.members ≡ 0) × (workers ≤ vec_capacity p.members)) }
+{
+    let names = chase.setup().graph().names();
+    let jobs = batch_size(chase.setup().widest());
+    let (board, scribe, watchers) = Board::new(alloc, chase.book(), names, workers * jobs)?;
+    let (thieves, workspaces) = workspaces(alloc, chase.setup(), &board, watchers, workers, jobs)?;
+    let members = Vec::with_capacity(alloc, workers as usize)?;
+    Ok(CrewParts {
+        board,
+        scribe,
+        thieves,
+        workspaces,
+        members,
+    })
+}
+
+/// The crew with this lock, of which each pass gets a workspace.
+fn assemble<'a>(
+    lock: TurnLock<Shared<'a>>,
+    passes: Vec<Pass<Shared<'a>>>,
+    board: Board,
+    thieves: Vec<Thief>,
+    workspaces: Vec<Workspace>,
+    members: Vec<CrewMember<Shared<'a>>>,
+    ready: u64,
+) -> Crew<'a>
+    requires seats { (0 < seats_of lock) × (seats_of lock ≤ 64) }
+    requires passes { length passes.items ≡ seats_of lock }
+    requires count { length workspaces.items ≡ seats_of lock }
+    requires room { (vec_len members ≡ 0) × (seats_of lock ≤ vec_capacity members) }
+    requires parts { (S : Preparation) × AllOutWith lock (S, board) passes.items × All (IsWorkspace (length S.task.pairs) S.widest board thieves.items) workspaces.items }
+    ensures setup { result.setup ≡ (opened lock.entry).chase.setup }
+    ensures journal { result.journal ≡ (opened lock.entry).chase.book.journal }
+    ensures workers { result.workers ≡ seats_of lock.entry }
+{
+    let (mut passes, mut workspaces, mut members) = (passes, workspaces, members);
+    members_of(
+        &lock,
+        &board,
+        thieves.as_slice(),
+        &mut passes,
+        &mut workspaces,
+        &mut members,
+    );
+    Crew {
+        lock,
+        board,
+        thieves,
+        members,
+        home: passes,
+        ready,
+    }
+}
+
 impl<'a> Crew<'a> {
     /// A crew of so many workers, 1 to 64. The first pairs are dealt to them as hints. With `NoMemory` the chase comes
     /// back as it was.
@@ -81,47 +156,23 @@ impl<'a> Crew<'a> {
         ensures workers { IfOk result (λ c. c.workers ≡ workers) }
         ensures err { IfErr result (λ e. e.0 ≡ chase.entry) }
     {
-        let names = chase.setup().graph().names();
-        let jobs = batch_size(chase.setup().widest());
         let ready = chase.ready_count() as u64;
-        let Ok((board, scribe, watchers)) = Board::new(alloc, chase.book(), names, workers * jobs)
-        else {
+        let Ok(parts) = crew_parts(alloc, &chase, workers) else {
             return Err((chase, NoMemory));
         };
-        let Ok((thieves, mut workspaces)) = workspaces(
-            alloc,
-            chase.setup(),
-            &board,
-            watchers,
-            workers,
-            jobs,
-        ) else {
-            return Err((chase, NoMemory));
-        };
-        let Ok(mut members) = Vec::with_capacity(alloc, workers as usize) else {
-            return Err((chase, NoMemory));
-        };
+        let CrewParts {
+            board,
+            scribe,
+            thieves,
+            workspaces,
+            members,
+        } = parts;
         // For the proof alone: the journal is shorter than what a lock can count.
         let _ = chase.book();
         match TurnLock::new(alloc, Shared { chase, scribe }, workers) {
-            Ok((lock, mut passes)) => {
-                members_of(
-                    &lock,
-                    &board,
-                    thieves.as_slice(),
-                    &mut passes,
-                    &mut workspaces,
-                    &mut members,
-                );
-                Ok(Crew {
-                    lock,
-                    board,
-                    thieves,
-                    members,
-                    home: passes,
-                    ready,
-                })
-            }
+            Ok((lock, passes)) => Ok(assemble(
+                lock, passes, board, thieves, workspaces, members, ready,
+            )),
             Err((shared, NoMemory)) => {
                 let Shared { chase, .. } = shared;
                 Err((chase, NoMemory))
