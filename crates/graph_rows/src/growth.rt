@@ -8,7 +8,7 @@ ghost use Rattle.chase_laws.specs.SameRows.{HasRowsOf};
 ghost use Rattle.graph_rows.specs.Rows.{StandFor, AreFew};
 ghost use Rattle.graph_rows.specs.NumberedGrowth.{IsNumberedGrowth};
 
-use crate::numbering::{NumberedKeys, number_keys};
+use crate::numbered_keys::{NumberedKeys, number_keys};
 use crate::rows::Rows;
 use chase_laws::Pattern;
 use gk_base::NoMemory;

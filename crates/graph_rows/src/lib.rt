@@ -7,6 +7,7 @@
 //! - `pieces`: a graph's rows, read piece by piece
 //! - `batches`: reading and numbering at once, in two threads
 //! - `second_reader`: a second thread that reads and judges
+//! - `numbered_keys`: keys in numbers over the names of a graph
 //! - `numbering`: names, graph and patterns in numbers
 //! - `growth`: names, two graphs of which the second has all rows of the first, and patterns in numbers
 #![tactic(auto)]
@@ -14,6 +15,7 @@
 mod batches;
 mod growth;
 mod loading;
+mod numbered_keys;
 mod numbering;
 mod pieces;
 mod rows;

@@ -2,7 +2,7 @@
 use Rattle.std.proofs.Common.{subst}
 use Rattle.key_file.proofs.CallerLemmas.{folding_of}
 use Rattle.graph_rows.specs.Numbered.{AreAlikeFor}
-use Rattle.graph_rows.proofs.numbering.number_keys.Goals as goal
+use Rattle.graph_rows.proofs.numbered_keys.number_keys.Goals as goal
 
 pub returns-clause-alike : goal.returns-clause-alike
 returns-clause-alike c = subst (λ K. AreAlikeFor c.compile.new.names K c.in_ok-alike.alike.items) c.deref.ensures.value c.in_ok-alike.ensures.value

@@ -3,7 +3,7 @@ use Rattle.std.proofs.Common.{◌++◌, ◌∷◌, [], ◌∙◌, sym, ap, map, 
 use Rattle.std.proofs.lemmas.List.{take_all}
 use Rattle.gk_base.specs.Term.{is_literal}
 use Rattle.key_file.proofs.CallerLemmas.{flag_next}
-use Rattle.graph_rows.proofs.numbering.literal_flags.Goals as goal
+use Rattle.graph_rows.proofs.numbered_keys.literal_flags.Goals as goal
 
 pub loop-place-preserved : goal.loop-place-preserved
 loop-place-preserved c =

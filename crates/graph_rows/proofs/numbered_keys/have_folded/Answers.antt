@@ -4,7 +4,7 @@ use Rattle.std.proofs.lemmas.Bool.{cases_lt}
 use Rattle.std.proofs.lemmas.Option.{slice_get-get_or, slice_get_within}
 use Rattle.chase_laws.specs.declared.pattern.Slot.TheVariants.{Folded}
 use Rattle.chase_laws.specs.Shape.{Shape}
-use Rattle.graph_rows.proofs.numbering.have_folded.Goals as goal
+use Rattle.graph_rows.proofs.numbered_keys.have_folded.Goals as goal
 
 pub returns-then-has_folded-clause-some : goal.returns-then-has_folded-clause-some
 returns-then-has_folded-clause-some c =
