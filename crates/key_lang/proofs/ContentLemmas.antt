@@ -10,7 +10,6 @@ use Rattle.key_file.specs.declared.slot.KeySlot.{KeySlot}
 use Rattle.key_file.specs.declared.slot.KeySlot.TheVariants.{Entity, Any, Value, Folded, Fixed}
 use Rattle.key_file.specs.declared.edge.KeyEdge.{KeyEdge}
 use Rattle.key_file.specs.Name.{is_name_byte, is_name}
-use Rattle.key_lang.specs.Tokens.{begins_constant}
 use Rattle.key_lang.specs.CanonicalKeys.{typed_end, declaration_text, node_text, optional_node, node_at, triple_line, first_line}
 use Rattle.nt_reader.proofs.CallerLemmas.{AllOf, IsText, text_append, text_byte, text_cons, text_low, text_term, with_end, joined}
 use Rattle.key_lang.proofs.LineForms.{IsIri, IsGiven}

@@ -1,14 +1,13 @@
 -- What a key file says: its keys, or the first refused line and why. The refusals, their order and the limits are this
 -- project's own; lines are those of RDF 1.1 N-Triples, section 7 (EOL).
-use Rattle.std.specs.Prelude.{◌≡◌, ℕ, ◌+◌, nat_lt, List, [], ◌∷◌, length, take, slice_index, if◌then◌else◌, Option, Some, None, Result, Ok, Err}
+use Rattle.std.specs.Prelude.{ℕ, ◌+◌, nat_lt, List, [], ◌∷◌, length, take, slice_index, if◌then◌else◌, Option, Some, None, Result, Ok, Err}
 use Rattle.nt_reader.specs.Lines.{lines}
 use Rattle.nt_reader.specs.File.{judged, line_of_next}
 use Rattle.key_file.specs.KeyShape.{KeyShape}
 use Rattle.key_lang.specs.declared.fault.KeyFault.{KeyFault}
 use Rattle.key_lang.specs.declared.fault.KeyFault.TheVariants.{FileEndsInsideAKey, FileTooLong}
 use Rattle.key_lang.specs.declared.fault.KeyRefusal.{KeyRefusal}
-use Rattle.key_lang.specs.Answers.{KeyStop, Is, Then}
-use Rattle.gk_base.specs.declared.stop.Stop.TheVariants.{NoMemory, Fault}
+use Rattle.key_lang.specs.Answers.{Is, Then}
 use Rattle.key_lang.specs.OpenKey.{OpenShape, KeyState}
 use Rattle.key_lang.specs.Statements.{KeyLineSays}
 

@@ -1,6 +1,6 @@
 //! The variables of an open key.
 
-ghost use Rattle.std.specs.Prelude.{◌≡◌, ◌≤◌, length, position, IfOk};
+ghost use Rattle.std.specs.Prelude.{◌≡◌, ◌≤◌, ◌++◌, ◌∷◌, [], Err, IfOk, MatchOption, Ok, length, position};
 ghost use Rattle.std.specs.List.{list_any};
 ghost use Rattle.gk_base.specs.Answers.{IsSo};
 ghost use Rattle.key_lang.specs.Answers.{Is};
@@ -68,19 +68,31 @@ fn place_of(variables: &[KeySlot], sigil: u8, name: &[u8]) -> Option<usize>
         .position(|slot| is_named_so(sigil, name, slot))
 }
 
+/// What is wrong with one more variable, if anything is.
+fn declaration_fault(key: &OpenKey, slot: &KeySlot) -> Option<KeyFault>
+    ensures { MatchOption result (declare key.now slot.now ≡ Ok (record key.now { variables = key.now.variables ++ slot.now ∷ [] })) (λ fault. declare key.now slot.now ≡ Err fault) }
+{
+    if has_variable(&key.variables, sigil_of(slot), slot_name(slot)) {
+        Some(KeyFault::VariableDeclaredTwice)
+    } else if nodes(key) >= MOST_NODES {
+        Some(KeyFault::TooManyNodes)
+    } else {
+        None
+    }
+}
+
 /// The key with one more variable.
 pub(crate) fn declare(key: OpenKey, slot: KeySlot) -> Result<OpenKey, LineStop>
     ensures { IsSo (Is (declare key slot)) result }
 {
-    if has_variable(&key.variables, sigil_of(&slot), slot_name(&slot)) {
-        return Err(LineStop::Fault(KeyFault::VariableDeclaredTwice));
+    match declaration_fault(&key, &slot) {
+        Some(fault) => Err(LineStop::Fault(fault)),
+        None => {
+            let mut key = key;
+            key.variables.push(slot)?;
+            Ok(key)
+        }
     }
-    if nodes(&key) >= MOST_NODES {
-        return Err(LineStop::Fault(KeyFault::TooManyNodes));
-    }
-    let mut key = key;
-    key.variables.push(slot)?;
-    Ok(key)
 }
 
 /// Reads the declared variable at `at`, and gives its place among the variables and the place after it.
