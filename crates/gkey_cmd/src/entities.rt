@@ -1,7 +1,8 @@
 //! The entities of a graph that words name.
 
-ghost use Rattle.std.specs.Prelude.{◌≡◌, ℕ, IfOk, IfSome, IfNone};
+ghost use Rattle.std.specs.Prelude.{◌≡◌, ℕ, Some, IfOk, IfSome, IfNone, slice_get};
 ghost use Rattle.gk_base.specs.declared.term.Term.{Term as AnyTerm};
+ghost use Rattle.chase_laws.specs.Graph.{IsEntity};
 ghost use Rattle.nt_lex.specs.Spelling.{Spells};
 ghost use Rattle.gkey_cmd.specs.WhyParts.{SpellsNumber};
 
@@ -34,6 +35,19 @@ fn spelled<'w>(alloc: Global, word: &'w [u8]) -> Result<Option<LexedTerm<'w>>, N
     }
 }
 
+/// The number of the entity of the graph that is this term, and `None` exactly where it is none.
+fn entity_number(term: &LexedTerm<'_>, names: &Names, graph: &Graph) -> Option<u32>
+    ensures name { IfSome result (λ n. slice_get names.now n ≡ Some term.now) }
+    ensures entity { IfSome result (λ n. IsEntity graph.now n) }
+    ensures none { IfNone result ((n : ℕ) → slice_get names.now n ≡ Some term.now → ¬ (IsEntity graph.now n)) }
+{
+    let _distinct = names.len();
+    match names.find_ref(&term.lent()) {
+        Some(n) => { if graph.is_entity(n) { Some(n) } else { None } }
+        None => None,
+    }
+}
+
 /// The number of the entity of the graph that the whole word spells, as a file of N-Triples would, and `None` exactly where it
 /// spells none.
 pub(crate) fn entity(
@@ -45,16 +59,8 @@ pub(crate) fn entity(
     ensures spelled { IfOk result (λ o. IfSome o (λ n. SpellsNumber graph.now names.now word.now n)) }
     ensures none { IfOk result (λ o. IfNone o ((n : ℕ) → ¬ (SpellsNumber graph.now names.now word.now n))) }
 {
-    let _distinct = names.len();
-    let Some(term) = spelled(alloc, word.bytes())? else {
-        return Ok(None);
-    };
-    let Some(n) = names.find_ref(&term.lent()) else {
-        return Ok(None);
-    };
-    if graph.is_entity(n) {
-        Ok(Some(n))
-    } else {
-        Ok(None)
+    match spelled(alloc, word.bytes())? {
+        Some(term) => Ok(entity_number(&term, names, graph)),
+        None => Ok(None),
     }
 }

@@ -89,6 +89,14 @@ fn number_to(word: &Text, most: u32) -> Option<u32>
     number_of(word.bytes(), most)
 }
 
+/// How many workers the word of the option for them asks for, if it is a number from 1 to 64.
+fn workers_to(word: &Text) -> Option<u32>
+    ensures number { result ≡ number_to 64 word.now }
+    ensures within { IfSome result (λ n. (0 < n) × (n ≤ 64)) }
+{
+    number_to(word, MOST_WORKERS)
+}
+
 /// The command with a chase that has this name, if there is one.
 fn chase_command<'w>(
     name: &Text,
@@ -164,55 +172,116 @@ fn one_word<'w>(word: &Text) -> Option<Command<'w>>
     }
 }
 
+/// The command that this word asks for with one other, if there is one.
+fn two_words<'w>(name: &Text, argument: &'w Text) -> Option<Command<'w>>
+    ensures { let words = name.now ∷ argument.now ∷ [] in
+        MatchOption result (wanted words ≡ None) (IsCommand words) }
+{
+    if name.bytes() == b"convert".as_slice() {
+        Some(Command::Convert { proof: argument })
+    } else if name.bytes() == b"demo".as_slice() {
+        Some(Command::Demo {
+            n: number_to(argument, MOST_PAIRS)?,
+        })
+    } else {
+        None
+    }
+}
+
+/// The command that five words ask for, if there is one: `why` with two files and two words for entities, or a chase of two
+/// files with a number of workers.
+fn five_words<'w>(
+    name: &Text,
+    second: &'w Text,
+    third: &'w Text,
+    fourth: &'w Text,
+    fifth: &'w Text,
+) -> Option<Command<'w>>
+    ensures { let words = name.now ∷ second.now ∷ third.now ∷ fourth.now ∷ fifth.now ∷ [] in
+        MatchOption result (wanted words ≡ None) (IsCommand words) }
+{
+    if name.bytes() == b"why".as_slice() {
+        Some(Command::Why {
+            workers: WORKERS,
+            graph: second,
+            keys: third,
+            first: fourth,
+            second: fifth,
+        })
+    } else if second.bytes() == b"--workers".as_slice() {
+        chase_command(name, workers_to(third)?, fourth, fifth)
+    } else {
+        None
+    }
+}
+
+/// The command `grow` with a number of workers, if the words ask for it.
+fn grow_command<'w>(
+    name: &Text,
+    option: &Text,
+    workers: &Text,
+    graph: &'w Text,
+    more: &'w Text,
+    keys: &'w Text,
+) -> Option<Command<'w>>
+    ensures { let words = name.now ∷ option.now ∷ workers.now ∷ graph.now ∷ more.now ∷ keys.now ∷ [] in
+        MatchOption result (wanted words ≡ None) (IsCommand words) }
+{
+    if name.bytes() == b"grow".as_slice() && option.bytes() == b"--workers".as_slice() {
+        Some(Command::Grow {
+            workers: workers_to(workers)?,
+            graph,
+            more,
+            keys,
+        })
+    } else {
+        None
+    }
+}
+
+/// The command `why` with a number of workers, if the words ask for it.
+fn why_command<'w>(
+    name: &Text,
+    option: &Text,
+    workers: &Text,
+    graph: &'w Text,
+    keys: &'w Text,
+    first: &'w Text,
+    second: &'w Text,
+) -> Option<Command<'w>>
+    ensures { let words = name.now ∷ option.now ∷ workers.now ∷ graph.now ∷ keys.now ∷ first.now ∷ second.now ∷ [] in
+        MatchOption result (wanted words ≡ None) (IsCommand words) }
+{
+    if name.bytes() == b"why".as_slice() && option.bytes() == b"--workers".as_slice() {
+        Some(Command::Why {
+            workers: workers_to(workers)?,
+            graph,
+            keys,
+            first,
+            second,
+        })
+    } else {
+        None
+    }
+}
+
 /// The command that the words after the program's name ask for. None comes exactly where they ask for none. It takes
 /// no memory.
 pub fn read_words<'w>(words: &'w [Text]) -> Option<Command<'w>>
     ensures { MatchOption result (wanted words.now ≡ None) (IsCommand words.now) }
 {
     match words {
-        [command, graph, keys] => chase_command(command, WORKERS, graph, keys),
-        [command, graph, keys, first, second] if command.bytes() == b"why".as_slice() => {
-            Some(Command::Why {
-                workers: WORKERS,
-                graph,
-                keys,
-                first,
-                second,
-            })
+        [name] => one_word(name),
+        [name, argument] => two_words(name, argument),
+        [name, graph, keys] => chase_command(name, WORKERS, graph, keys),
+        [name, first, second, third] => three_files(name, first, second, third),
+        [name, second, third, fourth, fifth] => five_words(name, second, third, fourth, fifth),
+        [name, option, workers, graph, more, keys] => {
+            grow_command(name, option, workers, graph, more, keys)
         }
-        [command, option, workers, graph, keys] if option.bytes() == b"--workers".as_slice() => {
-            let workers = number_to(workers, MOST_WORKERS)?;
-            chase_command(command, workers, graph, keys)
+        [name, option, workers, graph, keys, first, second] => {
+            why_command(name, option, workers, graph, keys, first, second)
         }
-        [command, option, workers, graph, keys, first, second]
-            if command.bytes() == b"why".as_slice() && option.bytes() == b"--workers".as_slice() =>
-            {
-                Some(Command::Why {
-                    workers: number_to(workers, MOST_WORKERS)?,
-                    graph,
-                    keys,
-                    first,
-                    second,
-                })
-            }
-        [command, first, second, third] => three_files(command, first, second, third),
-        [command, option, workers, graph, more, keys]
-            if command.bytes() == b"grow".as_slice() && option.bytes() == b"--workers".as_slice() =>
-            {
-                Some(Command::Grow {
-                    workers: number_to(workers, MOST_WORKERS)?,
-                    graph,
-                    more,
-                    keys,
-                })
-            }
-        [command, proof] if command.bytes() == b"convert".as_slice() => {
-            Some(Command::Convert { proof })
-        }
-        [command, n] if command.bytes() == b"demo".as_slice() => Some(Command::Demo {
-            n: number_to(n, MOST_PAIRS)?,
-        }),
-        [command] => one_word(command),
         _ => None,
     }
 }
