@@ -74,6 +74,39 @@ fn meet_scribe(board: &Board, watcher: &mut Watcher, scribe: &mut Scribe)
     board.meet(watcher, scribe);
 }
 
+/// Whether a view has the present labels, which the watcher filled since there were so many entries. Where there are no more
+/// entries, the watcher meets the scribe: the view has the present labels, and nothing is compared. Else its labels are compared
+/// with those of the book.
+#[inline]
+fn has_present_labels(
+    chase: &Chase<'_>,
+    board: &Board,
+    watcher: &mut Watcher,
+    scribe: &mut Scribe,
+    since: usize,
+    ticket: Ticket,
+    view: &View,
+) -> bool
+    requires watcher { (watcher.old.board ≡ board.now.id) × (watcher.old.read ≡ view.now.pairs) }
+    requires scribe { scribe.old.board ≡ board.now.id }
+    requires posted { scribe.old.posted ≡ chase.now.book.journal }
+    requires shown { scribe.old.shown ≡ chase.now.book.labels }
+    requires since { IsSince chase.now.book.journal watcher.old.since since }
+    requires near { ListsNear chase.now.setup.task ticket.a ticket.b view.now.pairs }
+    ensures present { IsTrue result ↔ IsPresent (state_in chase.now) view.now.pairs }
+    ensures watcher { watcher.new ≡ watcher.old }
+    ensures scribe { scribe.new ≡ scribe.old }
+{
+    law_fresh();
+    let is_fresh = chase.book().journal().len() == since;
+    if is_fresh {
+        meet_scribe(board, watcher, scribe);
+        true
+    } else {
+        chase.is_present(ticket, view)
+    }
+}
+
 impl<'a> Shared<'a> {
     /// Says for proofs what holds of every shared chase. It does nothing.
     pub(crate) fn holds(&self)
@@ -185,14 +218,17 @@ impl<'a> Shared<'a> {
         ensures book { self.new.chase.book ≡ self.old.chase.book }
         ensures woken { All (λ p. p < length self.old.chase.setup.task.pairs) woken.new.list }
     {
-        law_fresh();
         self.holds();
-        let is_fresh = self.chase.book().journal().len() == since;
-        if is_fresh {
-            meet_scribe(board, watcher, &mut self.scribe);
-            return self.chase.settle_missed(ticket, view, woken);
-        }
-        if self.chase.is_present(ticket, view) {
+        let is_present = has_present_labels(
+            &self.chase,
+            board,
+            watcher,
+            &mut self.scribe,
+            since,
+            ticket,
+            view,
+        );
+        if is_present {
             return self.chase.settle_missed(ticket, view, woken);
         }
         refresh(self.chase.setup(), board, &ticket, watcher, view, spare);
