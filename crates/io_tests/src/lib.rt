@@ -15,3 +15,11 @@ mod shelves;
 mod sinks;
 #[cfg(test)]
 mod texts;
+
+/// What a test ends with where there is no memory for it.
+#[cfg(test)]
+const ENOUGH: &str = "enough memory";
+
+/// What a test ends with where a file can't be written, found, read or removed.
+#[cfg(test)]
+const FILE: &str = "a file";

@@ -1,9 +1,9 @@
 ghost use Rattle.std.specs.Prelude.{◌-◌, ◌^◌, None};
 
+use crate::ENOUGH;
 use gk_io::{Failed, MemSink, Sink, SureSink, write_all};
 use std::alloc::Global;
 use std::process::Abort;
-use std::test::Fail;
 
 const TEXT: &[u8] = b"<urn:a> <urn:b>\n";
 
@@ -15,34 +15,23 @@ static FRONTS: [(usize, usize, u64, &[u8]); 3] = [
 ];
 
 /// A sink that takes so many bytes at once, so many in all, and fails at this call.
-fn mem_sink(
-    rt: &impl Abort,
-    alloc: Global,
-    most: usize,
-    room: usize,
-    fail: u64,
-) -> Result<MemSink, Fail> {
+fn mem_sink(rt: &impl Abort, alloc: Global, most: usize, room: usize, fail: u64) -> MemSink {
     assert!(rt; most > 0);
-    Ok(MemSink::new(alloc, most, room, [fail].to_vec(alloc)?)?)
+    let fail = [fail].to_vec(alloc).expect(rt, ENOUGH);
+    MemSink::new(alloc, most, room, fail).expect(rt, ENOUGH)
 }
 
 /// Such a sink to which the text was written, and whether that went well.
-fn written(
-    rt: &impl Abort,
-    alloc: Global,
-    most: usize,
-    room: usize,
-    fail: u64,
-) -> Result<(bool, MemSink), Fail> {
-    let mut sink = mem_sink(rt, alloc, most, room, fail)?;
+fn written(rt: &impl Abort, alloc: Global, most: usize, room: usize, fail: u64) -> (bool, MemSink) {
+    let mut sink = mem_sink(rt, alloc, most, room, fail);
     let is_written = write_all(&mut sink, TEXT).is_ok();
-    Ok((is_written, sink))
+    (is_written, sink)
 }
 
 #[test]
-fn mem_sink_keeps_a_front_of_the_text(rt: HostRuntime) -> Result<(), Fail> {
+fn mem_sink_keeps_a_front_of_the_text(rt: HostRuntime) {
     for (most, room, fail, taken) in &FRONTS {
-        let (is_written, sink) = written(&rt, rt.alloc(), *most, *room, *fail)?;
+        let (is_written, sink) = written(&rt, rt.alloc(), *most, *room, *fail);
         assert_eq!(rt;
             is_written,
             taken.len() == TEXT.len(),
@@ -50,19 +39,17 @@ fn mem_sink_keeps_a_front_of_the_text(rt: HostRuntime) -> Result<(), Fail> {
         );
         assert_eq!(rt; sink.bytes(), *taken, "{most} {room} {fail}");
     }
-    Ok(())
 }
 
 #[test]
-fn mem_sink_without_room_fails_at_an_empty_piece(rt: HostRuntime) -> Result<(), Fail> {
-    let mut full = MemSink::new(rt.alloc(), 1, 0, Vec::new(rt.alloc()))?;
+fn mem_sink_without_room_fails_at_an_empty_piece(rt: HostRuntime) {
+    let mut full = MemSink::new(rt.alloc(), 1, 0, Vec::new(rt.alloc())).expect(&rt, ENOUGH);
     assert_eq!(rt; full.write(b""), Err(Failed));
-    Ok(())
 }
 
 #[test]
-fn sure_sink_keeps_what_fits(rt: HostRuntime) -> Result<(), Fail> {
-    let mut sink = SureSink::new(rt.alloc(), 4)?;
+fn sure_sink_keeps_what_fits(rt: HostRuntime) {
+    let mut sink = SureSink::new(rt.alloc(), 4).expect(&rt, ENOUGH);
     for (piece, kept) in [
         (b"abc", b"abc".as_slice()),
         (b"def", b"abcd"),
@@ -71,7 +58,6 @@ fn sure_sink_keeps_what_fits(rt: HostRuntime) -> Result<(), Fail> {
         assert_eq!(rt; sink.write(piece), Ok(3));
         assert_eq!(rt; sink.bytes(), kept);
     }
-    Ok(())
 }
 
 /// A sink that takes one byte of each piece, and notes how long the pieces were.
@@ -94,11 +80,10 @@ impl Sink for SlowSink {
 }
 
 #[test]
-fn each_write_is_handed_all_that_is_left(rt: HostRuntime) -> Result<(), Fail> {
+fn each_write_is_handed_all_that_is_left(rt: HostRuntime) {
     let mut sink = SlowSink {
         lengths: Vec::new(rt.alloc()),
     };
-    write_all(&mut sink, b"text")?;
+    write_all(&mut sink, b"text").expect(&rt, "a whole text");
     assert_eq!(rt; sink.lengths.as_slice(), [4, 3, 2, 1].as_slice());
-    Ok(())
 }

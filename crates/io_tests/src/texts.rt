@@ -1,17 +1,16 @@
+use crate::ENOUGH;
 use gk_base::{NoMemory, Term, Text};
 use std::alloc::Global;
-use std::test::Fail;
 
 #[test]
-fn copies_are_equal_and_order_is_that_of_bytes(rt: HostRuntime) -> Result<(), Fail> {
-    let text = Text::from_bytes(rt.alloc(), b"ab")?;
-    assert!(rt; text.copy()? == text);
+fn copies_are_equal_and_order_is_that_of_bytes(rt: HostRuntime) {
+    let text = Text::from_bytes(rt.alloc(), b"ab").expect(&rt, ENOUGH);
+    assert!(rt; text.copy().expect(&rt, ENOUGH) == text);
     assert_eq!(rt; text.bytes(), b"ab".as_slice());
-    let longer = Text::from_vec(b"abc".to_vec(rt.alloc())?);
+    let longer = Text::from_vec(b"abc".to_vec(rt.alloc()).expect(&rt, ENOUGH));
     assert!(rt; text < longer);
     assert!(rt; text != longer);
     assert_eq!(rt; longer.into_vec().as_slice(), b"abc".as_slice());
-    Ok(())
 }
 
 /// A text of two letters.
@@ -35,25 +34,22 @@ fn is_copied(term: &Term) -> Result<bool, NoMemory> {
 }
 
 #[test]
-fn a_copy_of_a_plain_or_tagged_literal_is_equal(rt: HostRuntime) -> Result<(), Fail> {
-    let plain = Term::Plain(two_letters(rt.alloc())?);
-    assert!(rt; is_copied(&plain)?);
-    let tagged = tagged(rt.alloc())?;
-    assert!(rt; is_copied(&tagged)?);
+fn a_copy_of_a_plain_or_tagged_literal_is_equal(rt: HostRuntime) {
+    let plain = Term::Plain(two_letters(rt.alloc()).expect(&rt, ENOUGH));
+    assert!(rt; is_copied(&plain).expect(&rt, ENOUGH));
+    let tagged = tagged(rt.alloc()).expect(&rt, ENOUGH);
+    assert!(rt; is_copied(&tagged).expect(&rt, ENOUGH));
     assert!(rt; tagged != plain);
-    Ok(())
 }
 
 #[test]
-fn a_copy_of_a_typed_literal_is_equal(rt: HostRuntime) -> Result<(), Fail> {
-    let typed = typed(rt.alloc())?;
-    assert!(rt; is_copied(&typed)?);
-    Ok(())
+fn a_copy_of_a_typed_literal_is_equal(rt: HostRuntime) {
+    let typed = typed(rt.alloc()).expect(&rt, ENOUGH);
+    assert!(rt; is_copied(&typed).expect(&rt, ENOUGH));
 }
 
 #[test]
-fn a_copy_of_a_blank_node_is_equal(rt: HostRuntime) -> Result<(), Fail> {
-    let blank = Term::Blank(two_letters(rt.alloc())?);
-    assert!(rt; is_copied(&blank)? && !blank.is_literal());
-    Ok(())
+fn a_copy_of_a_blank_node_is_equal(rt: HostRuntime) {
+    let blank = Term::Blank(two_letters(rt.alloc()).expect(&rt, ENOUGH));
+    assert!(rt; is_copied(&blank).expect(&rt, ENOUGH) && !blank.is_literal());
 }
