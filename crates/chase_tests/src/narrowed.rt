@@ -1,21 +1,16 @@
 //! Pairs for which some of the keys are searched, and what the chase makes of them.
 
-ghost use Rattle.std.specs.Prelude.{◌<◌, ◌≤◌};
-
 use crate::ENOUGH;
-use crate::wholes::{are_labels, graph_and_keys};
+use crate::wholes::{are_labels, graph_and_keys, has_pairs, labels_by, prepared};
 use chase_core::{Chase, Matched, Setup, Woken};
 use chase_laws::Slot;
 use fixtures::{GraphTable, PatternTable};
-use match_run::{classes, prepare};
-use pair_filter::keep_with_keys;
+use pair_filter::{KeptPairs, keep_with_keys};
 use pair_seed::seed;
 use paired_search::KeyRange;
 use std::alloc::Global;
 use std::process::Abort;
-use std::sync::Wait;
 use std::thread::Threads;
-use steal_pool::OpenGate;
 
 /// Five keys for entities of type 1: by a value under 2, 3, 4 or 6, and by the next one, under 5.
 static KEYS: [PatternTable<'static>; 5] = [
@@ -156,27 +151,33 @@ fn whole(rt: &impl Abort, alloc: Global) -> Setup {
 
 /// The setup over the pairs that are kept, for which the keys of their ranges are.
 fn narrowed<R: Threads + Sync + Abort>(rt: &R, alloc: Global) -> Setup {
-    let (graph, patterns) = graph_and_keys(rt, alloc, &table(), keys());
-    prepare(rt, alloc, 1, graph, patterns, 100)
+    prepared(rt, alloc, &table(), keys(), 100)
         .expect(rt, "pairs")
         .setup
 }
 
-/// The labels of a whole match by so many workers.
-fn labels<R: Threads + Wait + Sync + Abort>(rt: &R, alloc: Global, workers: u32) -> Vec<u32>
-    requires { (0 < workers) × (workers ≤ 64) }
-{
+/// The candidate pairs.
+fn candidates(rt: &impl Abort, alloc: Global) -> Vec<(u32, u32)> {
     let (graph, patterns) = graph_and_keys(rt, alloc, &table(), keys());
-    classes(rt, alloc, graph, patterns, 100, workers, &OpenGate).expect(rt, "classes")
+    seed(alloc, &graph, &patterns, 100).expect(rt, "pairs")
+}
+
+/// Which of these pairs are kept, by so many threads, and their keys.
+fn kept_of<R: Threads + Sync + Abort>(
+    rt: &R,
+    alloc: Global,
+    threads: u32,
+    pairs: &[(u32, u32)],
+) -> KeptPairs {
+    let (graph, patterns) = graph_and_keys(rt, alloc, &table(), keys());
+    keep_with_keys(rt, alloc, threads, &graph, &patterns, pairs).expect(rt, ENOUGH)
 }
 
 #[test]
 fn ranges_go_from_the_first_key_that_pairs_to_the_last(rt: HostRuntime) {
-    let alloc = rt.alloc();
-    let (graph, patterns) = graph_and_keys(&rt, alloc, &table(), keys());
-    let pairs = seed(alloc, &graph, &patterns, 100).expect(&rt, "pairs");
+    let pairs = candidates(&rt, rt.alloc());
     assert_eq!(rt; pairs.len(), 66);
-    let kept = keep_with_keys(&rt, alloc, 1, &graph, &patterns, &pairs).expect(&rt, ENOUGH);
+    let kept = kept_of(&rt, rt.alloc(), 1, &pairs);
     assert_eq!(rt; kept.pairs.len(), PAIRS.len());
     assert!(rt; are_narrowed(&kept.pairs, &kept.keys));
 }
@@ -195,13 +196,9 @@ fn many(rt: &impl Abort, alloc: Global) -> Vec<(u32, u32)> {
 
 #[test]
 fn ranges_stay_beside_their_pairs_whatever_the_threads(rt: HostRuntime) {
-    let alloc = rt.alloc();
-    let (graph, patterns) = graph_and_keys(&rt, alloc, &table(), keys());
-    let pairs = many(&rt, alloc);
+    let pairs = many(&rt, rt.alloc());
     for threads in [0, 1, 2, 3, 8] {
-        let kept = keep_with_keys(&rt, alloc, threads, &graph, &patterns, &pairs).expect(
-            &rt, ENOUGH,
-        );
+        let kept = kept_of(&rt, rt.alloc(), threads, &pairs);
         let right = kept.pairs.len() == pairs.len() && are_narrowed(&kept.pairs, &kept.keys);
         assert!(rt; right, "{threads} threads");
     }
@@ -219,7 +216,7 @@ fn a_chase_by_all_keys_finds_the_pairs(rt: HostRuntime) {
 fn a_chase_by_the_ranges_comes_to_the_same(rt: HostRuntime) {
     let alloc = rt.alloc();
     let setup = narrowed(&rt, alloc);
-    assert_eq!(rt; setup.pairs().len(), PAIRS.len());
+    assert!(rt; has_pairs(&setup, &PAIRS));
     let some = matched(&rt, alloc, &setup);
     assert!(rt; are_found(&some));
     assert!(rt; are_labels(&some.labels, wanted()));
@@ -228,7 +225,7 @@ fn a_chase_by_the_ranges_comes_to_the_same(rt: HostRuntime) {
 #[test]
 fn a_whole_match_comes_to_the_same(rt: HostRuntime) {
     for workers in 1..3u32 {
-        let is = are_labels(&labels(&rt, rt.alloc(), workers), wanted());
-        assert!(rt; is, "{workers} workers");
+        let labels = labels_by(&rt, rt.alloc(), &table(), keys(), 100, workers);
+        assert!(rt; are_labels(&labels, wanted()), "{workers} workers");
     }
 }

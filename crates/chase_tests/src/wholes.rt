@@ -1,8 +1,9 @@
 //! Whole matches.
 
-ghost use Rattle.std.specs.Prelude.{◌<◌, ◌^◌, length};
+ghost use Rattle.std.specs.Prelude.{◌<◌, ◌≤◌, ◌^◌, length};
 
 use crate::ENOUGH;
+use chase_core::Setup;
 use chase_laws::Pattern;
 use fixtures::worked_graphs::{albums, two_pairs};
 use fixtures::worked_patterns::{ALBUM_BY, ARTIST, NAME_AND_CODE, NAME_AND_NEXT};
@@ -45,6 +46,39 @@ pub(crate) fn graph_and_keys(
     (graph, patterns)
 }
 
+/// The labels of a whole match of a graph under keys by so many workers. This and what follows promise nothing, so that the
+/// proofs of their callers have little to carry.
+pub(crate) fn labels_by<R: Threads + Wait + Sync + Abort>(
+    rt: &R,
+    alloc: Global,
+    table: &GraphTable<'_>,
+    keys: &[PatternTable<'_>],
+    limit: u32,
+    workers: u32,
+) -> Vec<u32>
+    requires { (0 < workers) × (workers ≤ 64) }
+{
+    let (graph, keys) = graph_and_keys(rt, alloc, table, keys);
+    classes(rt, alloc, graph, keys, u64::from(limit), workers, &OpenGate).expect(rt, "classes")
+}
+
+/// What is prepared for a chase of a graph under keys.
+pub(crate) fn prepared<R: Threads + Sync + Abort>(
+    rt: &R,
+    alloc: Global,
+    table: &GraphTable<'_>,
+    keys: &[PatternTable<'_>],
+    limit: u32,
+) -> Result<Prepared, SeedStop> {
+    let (graph, keys) = graph_and_keys(rt, alloc, table, keys);
+    prepare(rt, alloc, 1, graph, keys, u64::from(limit))
+}
+
+/// Whether these are the pairs of a setup.
+pub(crate) fn has_pairs(setup: &Setup, pairs: &[(u32, u32)]) -> bool {
+    setup.pairs() == pairs
+}
+
 /// Whether the classes of a graph by a case's keys are those of the case, as one worker and as two find them.
 fn has_classes<R: Threads + Wait + Sync + Abort>(
     rt: &R,
@@ -52,13 +86,9 @@ fn has_classes<R: Threads + Wait + Sync + Abort>(
     table: &GraphTable<'_>,
     case: &Case,
 ) -> bool {
-    let limit = u64::from(case.limit);
     let mut right = true;
     for workers in 1..3u32 {
-        let (graph, keys) = graph_and_keys(rt, alloc, table, case.keys);
-        let labels = classes(rt, alloc, graph, keys, limit, workers, &OpenGate).expect(
-            rt, "classes",
-        );
+        let labels = labels_by(rt, alloc, table, case.keys, case.limit, workers);
         right = right && are_labels(&labels, case.wanted);
     }
     right
@@ -66,8 +96,7 @@ fn has_classes<R: Threads + Wait + Sync + Abort>(
 
 /// How many candidate pairs the albums have by all keys, or how many are told where there are too many.
 fn seeded<R: Threads + Sync + Abort>(rt: &R, alloc: Global, limit: u32) -> Result<u64, u64> {
-    let (graph, keys) = graph_and_keys(rt, alloc, &albums(), together().keys);
-    match prepare(rt, alloc, 1, graph, keys, u64::from(limit)) {
+    match prepared(rt, alloc, &albums(), together().keys, limit) {
         Ok(prepared) => Ok(prepared.seeded),
         Err(SeedStop::Fault(TooManyPairs { found })) => Err(found),
         Err(SeedStop::NoMemory) => Err(0),
@@ -159,17 +188,11 @@ fn next() -> &'static [PatternTable<'static>] {
     &NEXT
 }
 
-/// The two pairs, prepared for a chase by that key.
-fn prepared_by_next<R: Threads + Sync + Abort>(rt: &R, alloc: Global) -> Prepared {
-    let (graph, keys) = graph_and_keys(rt, alloc, &two_pairs(), next());
-    prepare(rt, alloc, 1, graph, keys, 2).expect(rt, "pairs")
-}
-
 #[test]
 fn the_filter_comes_after_the_count(rt: HostRuntime) {
-    let prepared = prepared_by_next(&rt, rt.alloc());
+    let prepared = prepared(&rt, rt.alloc(), &two_pairs(), next(), 2).expect(&rt, "pairs");
     assert_eq!(rt; prepared.seeded, 2);
-    assert_eq!(rt; prepared.setup.pairs(), [(8, 9)].as_slice());
+    assert!(rt; has_pairs(&prepared.setup, &[(8, 9)]));
 }
 
 #[test]
