@@ -1,5 +1,6 @@
 //! Which candidate pairs a filter keeps.
 
+use crate::{ENOUGH, FIT};
 use chase_laws::Slot;
 use fixtures::worked_graphs::{albums, folded_values, two_pairs};
 use fixtures::worked_patterns::{ALBUM_BY, ARTIST, FOLDED, NAME_AND_CODE, NAME_AND_NEXT, VALUE};
@@ -7,7 +8,6 @@ use fixtures::{GraphTable, PatternTable, patterns_of};
 use pair_filter::keep;
 use std::alloc::{AllocError, Global};
 use std::process::Abort;
-use std::test::Fail;
 use std::thread::Threads;
 
 /// Entities of type 2 whose next one, under 11, has one value under 4.
@@ -73,27 +73,27 @@ fn world(rows: &[[u32; 3]]) -> GraphTable<'_> {
 }
 
 /// Whether these are kept of some pairs in a graph by some keys.
-fn are_kept<R: Threads + Sync>(
+fn are_kept<R: Threads + Sync + Abort>(
     rt: &R,
     alloc: Global,
     table: &GraphTable<'_>,
     keys: &[PatternTable<'_>],
     pairs: &[(u32, u32)],
     wanted: &[(u32, u32)],
-) -> Result<bool, Fail> {
-    let graph = table.build(alloc)?;
-    let keys = patterns_of(alloc, keys)?;
-    let kept = keep(rt, alloc, &graph, &keys, pairs)?;
-    Ok(kept.as_slice() == wanted)
+) -> bool {
+    let graph = table.build(alloc).expect(rt, FIT);
+    let keys = patterns_of(alloc, keys).expect(rt, FIT);
+    let kept = keep(rt, alloc, &graph, &keys, pairs).expect(rt, ENOUGH);
+    kept.as_slice() == wanted
 }
 
 /// Whether what is kept in a graph is what a case names.
-fn holds<R: Threads + Sync>(
+fn holds<R: Threads + Sync + Abort>(
     rt: &R,
     alloc: Global,
     table: &GraphTable<'_>,
     case: &Case,
-) -> Result<bool, Fail> {
+) -> bool {
     are_kept(rt, alloc, table, case.keys, case.pairs, case.kept)
 }
 
@@ -377,12 +377,11 @@ fn cases() -> &'static [Case] {
 }
 
 #[test]
-fn pairs_are_kept_that_two_edges_tell_nothing_against(rt: HostRuntime) -> Result<(), Fail> {
+fn pairs_are_kept_that_two_edges_tell_nothing_against(rt: HostRuntime) {
     for (place, case) in cases().iter().enumerate() {
-        let is = holds(&rt, rt.alloc(), &world(case.rows), case)?;
+        let is = holds(&rt, rt.alloc(), &world(case.rows), case);
         assert!(rt; is, "case {place}");
     }
-    Ok(())
 }
 
 /// Cases whose rows are those of worked graphs: `two_pairs` by two keys and by the second alone, `folded_values` by a
@@ -425,26 +424,23 @@ fn worked() -> [&'static Case; 5] {
 }
 
 #[test]
-fn a_pair_is_kept_where_some_key_pairs_its_names(rt: HostRuntime) -> Result<(), Fail> {
+fn a_pair_is_kept_where_some_key_pairs_its_names(rt: HostRuntime) {
     let [both, next, _, _, _] = worked();
-    assert!(rt; holds(&rt, rt.alloc(), &two_pairs(), both)?);
-    assert!(rt; holds(&rt, rt.alloc(), &two_pairs(), next)?);
-    Ok(())
+    assert!(rt; holds(&rt, rt.alloc(), &two_pairs(), both));
+    assert!(rt; holds(&rt, rt.alloc(), &two_pairs(), next));
 }
 
 #[test]
-fn what_is_alike_is_kept_by_a_folded_value_alone(rt: HostRuntime) -> Result<(), Fail> {
+fn what_is_alike_is_kept_by_a_folded_value_alone(rt: HostRuntime) {
     let [_, _, folded, value, _] = worked();
-    assert!(rt; holds(&rt, rt.alloc(), &folded_values(), folded)?);
-    assert!(rt; holds(&rt, rt.alloc(), &folded_values(), value)?);
-    Ok(())
+    assert!(rt; holds(&rt, rt.alloc(), &folded_values(), folded));
+    assert!(rt; holds(&rt, rt.alloc(), &folded_values(), value));
 }
 
 #[test]
-fn albums_and_artists_are_filtered(rt: HostRuntime) -> Result<(), Fail> {
+fn albums_and_artists_are_filtered(rt: HostRuntime) {
     let [_, _, _, _, made] = worked();
-    assert!(rt; holds(&rt, rt.alloc(), &albums(), made)?);
-    Ok(())
+    assert!(rt; holds(&rt, rt.alloc(), &albums(), made));
 }
 
 /// How many times three pairs are handed in together: enough for several threads.
@@ -465,10 +461,9 @@ fn many(alloc: Global) -> Result<(Vec<(u32, u32)>, Vec<(u32, u32)>), AllocError>
 }
 
 #[test]
-fn many_pairs_stay_in_order(rt: HostRuntime) -> Result<(), Fail> {
+fn many_pairs_stay_in_order(rt: HostRuntime) {
     let alloc = rt.alloc();
-    let (pairs, wanted) = many(alloc)?;
-    let are = are_kept(&rt, alloc, &two_pairs(), worked()[1].keys, &pairs, &wanted)?;
+    let (pairs, wanted) = many(alloc).expect(&rt, ENOUGH);
+    let are = are_kept(&rt, alloc, &two_pairs(), worked()[1].keys, &pairs, &wanted);
     assert!(rt; are);
-    Ok(())
 }

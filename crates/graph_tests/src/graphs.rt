@@ -1,10 +1,10 @@
 //! A graph and its look-ups.
 
+use crate::{ENOUGH, FIT};
 use fixtures::{GraphTable, TableStop, Unfit};
-use gk_base::Stop;
+use gk_base::{NoMemory, Stop};
 use std::alloc::Global;
 use std::process::Abort;
-use std::test::Fail;
 use typed_graph::ascending::{above, holds};
 use typed_graph::{Graph, Index};
 
@@ -25,27 +25,24 @@ fn with_repeats(alloc: Global) -> Result<Graph, TableStop> {
 }
 
 #[test]
-fn rows_are_sorted_and_each_is_kept_once(rt: HostRuntime) -> Result<(), Fail> {
-    let graph = with_repeats(rt.alloc())?;
+fn rows_are_sorted_and_each_is_kept_once(rt: HostRuntime) {
+    let graph = with_repeats(rt.alloc()).expect(&rt, FIT);
     assert_eq!(rt; graph.rows(), [[0, 1, 2], [0, 1, 3]].as_slice());
     assert_eq!(rt; graph.names(), 4);
-    Ok(())
 }
 
 #[test]
-fn rows_are_found_from_either_end(rt: HostRuntime) -> Result<(), Fail> {
-    let graph = with_repeats(rt.alloc())?;
+fn rows_are_found_from_either_end(rt: HostRuntime) {
+    let graph = with_repeats(rt.alloc()).expect(&rt, FIT);
     assert_eq!(rt; graph.outgoing(0, 1), [2, 3].as_slice());
     assert_eq!(rt; graph.incoming(2, 1), [0].as_slice());
-    Ok(())
 }
 
 #[test]
-fn a_graph_without_types_has_entities(rt: HostRuntime) -> Result<(), Fail> {
-    let graph = with_repeats(rt.alloc())?;
+fn a_graph_without_types_has_entities(rt: HostRuntime) {
+    let graph = with_repeats(rt.alloc()).expect(&rt, FIT);
     assert!(rt; !graph.is_entity(1) && graph.is_entity(0) && !graph.is_entity(2));
     assert!(rt; graph.with_type(1).is_empty() && !graph.has_type(0, 2));
-    Ok(())
 }
 
 /// Two entities of type 2 with two literals, which are alike.
@@ -78,35 +75,32 @@ fn with_types(alloc: Global) -> Result<Graph, TableStop> {
 }
 
 #[test]
-fn types_and_rows_are_those_of_the_table(rt: HostRuntime) -> Result<(), Fail> {
-    let graph = with_types(rt.alloc())?;
+fn types_and_rows_are_those_of_the_table(rt: HostRuntime) {
+    let graph = with_types(rt.alloc()).expect(&rt, FIT);
     assert_eq!(rt; graph.with_type(2), [0, 3].as_slice());
     assert!(rt; graph.has_type(3, 2) && !graph.has_type(2, 3) && !graph.has_type(5, 2));
     assert!(rt; graph.has(3, 4, 6) && !graph.has(3, 4, 5) && !graph.has(6, 4, 3));
-    Ok(())
 }
 
 #[test]
-fn entities_and_literals_are_told_apart(rt: HostRuntime) -> Result<(), Fail> {
-    let graph = with_types(rt.alloc())?;
+fn entities_and_literals_are_told_apart(rt: HostRuntime) {
+    let graph = with_types(rt.alloc()).expect(&rt, FIT);
     assert!(rt;
         graph.is_entity(2) && !graph.is_entity(1) && !graph.is_entity(4) && !graph.is_entity(6)
     );
     assert!(rt; graph.is_literal(6) && !graph.is_literal(3));
-    Ok(())
 }
 
 #[test]
-fn look_ups_answer_for_every_number(rt: HostRuntime) -> Result<(), Fail> {
-    let graph = with_types(rt.alloc())?;
+fn look_ups_answer_for_every_number(rt: HostRuntime) {
+    let graph = with_types(rt.alloc()).expect(&rt, FIT);
     assert_eq!(rt; graph.names(), 7);
     assert_eq!(rt; graph.alike(6), 5);
     assert!(rt; is_no_name(&graph, 7) && is_no_name(&graph, 4_294_967_295));
-    Ok(())
 }
 
 /// A table that makes a graph.
-const FIT: GraphTable<'static> = GraphTable {
+const THREE: GraphTable<'static> = GraphTable {
     names: 3,
     rows: &[[0, 0, 1]],
     literals: &[1, 2],
@@ -119,26 +113,26 @@ const FIT: GraphTable<'static> = GraphTable {
 static UNFIT: [GraphTable<'static>; 6] = [
     GraphTable {
         rows: &[[0, 0, 3]],
-        ..FIT
+        ..THREE
     },
     GraphTable {
         rdf_type: Some(3),
-        ..FIT
+        ..THREE
     },
     GraphTable {
         names: 2,
         rows: &[],
         rdf_type: None,
         alike: &[],
-        ..FIT
+        ..THREE
     },
     GraphTable {
         alike: &[(1, 2)],
-        ..FIT
+        ..THREE
     },
     GraphTable {
         alike: &[(1, 0)],
-        ..FIT
+        ..THREE
     },
     GraphTable {
         names: 2,
@@ -151,7 +145,7 @@ static UNFIT: [GraphTable<'static>; 6] = [
 
 /// The tables that make a graph, and those that make none.
 fn tables() -> (GraphTable<'static>, &'static [GraphTable<'static>]) {
-    (FIT, &UNFIT)
+    (THREE, &UNFIT)
 }
 
 /// Whether a table is unfit.
@@ -163,30 +157,28 @@ fn is_unfit(alloc: Global, table: &GraphTable<'_>) -> bool {
 }
 
 #[test]
-fn parts_that_make_no_graph_are_told(rt: HostRuntime) -> Result<(), TableStop> {
+fn parts_that_make_no_graph_are_told(rt: HostRuntime) {
     let (fit, unfit) = tables();
-    assert_eq!(rt; fit.build(rt.alloc())?.names(), 3);
+    assert_eq!(rt; fit.build(rt.alloc()).expect(&rt, FIT).names(), 3);
     for (place, table) in unfit.iter().enumerate() {
         assert!(rt; is_unfit(rt.alloc(), table), "table {place}");
     }
-    Ok(())
 }
 
 /// An index of rows that begin with 0 and 2.
-fn indexed(alloc: Global) -> Result<Index, Fail> {
+fn indexed(alloc: Global) -> Result<Index, NoMemory> {
     let rows = [[2, 9, 7], [0, 5, 8], [2, 9, 3], [2, 9, 7]];
     Ok(Index::build(alloc, rows.to_vec(alloc)?, 3)?)
 }
 
 #[test]
-fn an_index_finds_rows_by_two_numbers(rt: HostRuntime) -> Result<(), Fail> {
-    let index = indexed(rt.alloc())?;
+fn an_index_finds_rows_by_two_numbers(rt: HostRuntime) {
+    let index = indexed(rt.alloc()).expect(&rt, ENOUGH);
     assert_eq!(rt; index.find(2, 9), [3, 7].as_slice());
     assert!(rt;
         index.find(2, 5).is_empty() && index.find(1, 9).is_empty() && index.find(3, 9).is_empty()
     );
     assert!(rt; index.begins(0) && !index.begins(1) && !index.begins(3));
-    Ok(())
 }
 
 #[test]

@@ -21,3 +21,11 @@ mod plans;
 mod searching;
 #[cfg(test)]
 mod seeding;
+
+/// What a test ends with where there is no memory for it.
+#[cfg(test)]
+const ENOUGH: &str = "enough memory";
+
+/// What a test ends with where a table makes no graph or no pattern.
+#[cfg(test)]
+const FIT: &str = "a table that fits";

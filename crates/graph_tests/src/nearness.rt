@@ -1,6 +1,7 @@
 //! What is near to what. A list is said by pairs: a name, and one near to it. The cases stand behind functions, so that the
 //! proofs of the tests do not see them.
 
+use crate::{ENOUGH, FIT};
 use chase_laws::Slot;
 use fixtures::worked_graphs::{places, two_pairs};
 use fixtures::worked_patterns::{NAME_AND_CODE, NAME_AND_NEXT};
@@ -8,7 +9,6 @@ use fixtures::{PatternTable, patterns_of};
 use near_lists::Near;
 use std::alloc::Global;
 use std::process::Abort;
-use std::test::Fail;
 use typed_graph::Graph;
 
 /// The place behind the pairs of a name with each of these, if they stand from a place on.
@@ -54,18 +54,17 @@ struct Case {
 }
 
 /// What is near in a graph by some keys.
-fn near_by(alloc: Global, graph: &Graph, keys: &[PatternTable<'_>]) -> Result<Near, Fail> {
-    let keys = patterns_of(alloc, keys)?;
-    Ok(Near::build(alloc, graph, &keys)?)
+fn near_by(rt: &impl Abort, alloc: Global, graph: &Graph, keys: &[PatternTable<'_>]) -> Near {
+    let keys = patterns_of(alloc, keys).expect(rt, FIT);
+    Near::build(alloc, graph, &keys).expect(rt, ENOUGH)
 }
 
 /// Asserts what is near in a graph by the keys of each case.
-fn assert_near(rt: &impl Abort, alloc: Global, graph: &Graph, cases: &[Case]) -> Result<(), Fail> {
+fn assert_near(rt: &impl Abort, alloc: Global, graph: &Graph, cases: &[Case]) {
     for (place, case) in cases.iter().enumerate() {
-        let near = near_by(alloc, graph, case.keys)?;
+        let near = near_by(rt, alloc, graph, case.keys);
         assert!(rt; are_near(&near, case.wanted), "case {place}");
     }
-    Ok(())
 }
 
 /// Two keys, of which one follows an edge as it goes and no key goes back, and one that goes back.
@@ -101,19 +100,18 @@ const LED_TO_BY_NEXT: PatternTable<'static> = PatternTable {
 };
 
 #[test]
-fn a_walk_goes_as_the_edge_does(rt: HostRuntime) -> Result<(), Fail> {
-    let graph = two_pairs().build(rt.alloc())?;
-    assert_near(&rt, rt.alloc(), &graph, next())
+fn a_walk_goes_as_the_edge_does(rt: HostRuntime) {
+    let graph = two_pairs().build(rt.alloc()).expect(&rt, FIT);
+    assert_near(&rt, rt.alloc(), &graph, next());
 }
 
 #[test]
-fn each_name_has_those_that_it_is_near_to(rt: HostRuntime) -> Result<(), Fail> {
-    let graph = two_pairs().build(rt.alloc())?;
+fn each_name_has_those_that_it_is_near_to(rt: HostRuntime) {
+    let graph = two_pairs().build(rt.alloc()).expect(&rt, FIT);
     let owned = owned();
-    let near = near_by(rt.alloc(), &graph, owned.keys)?;
+    let near = near_by(&rt, rt.alloc(), &graph, owned.keys);
     assert!(rt; near.names() == 12);
     assert!(rt; are_owned(&near, owned.wanted));
-    Ok(())
 }
 
 const ITSELF: &[(u32, u32)] = &[(8, 8), (9, 9), (10, 10)];
@@ -167,9 +165,9 @@ fn hubs() -> &'static [Case] {
 }
 
 #[test]
-fn a_shared_hub_is_passed_where_an_entity_lies_behind(rt: HostRuntime) -> Result<(), Fail> {
-    let graph = places().build(rt.alloc())?;
-    assert_near(&rt, rt.alloc(), &graph, hubs())
+fn a_shared_hub_is_passed_where_an_entity_lies_behind(rt: HostRuntime) {
+    let graph = places().build(rt.alloc()).expect(&rt, FIT);
+    assert_near(&rt, rt.alloc(), &graph, hubs());
 }
 
 /// Entities of type 2 that share a literal under 5 with another.
@@ -212,9 +210,9 @@ fn values() -> &'static [Case] {
 }
 
 #[test]
-fn a_walk_passes_literals_and_constants(rt: HostRuntime) -> Result<(), Fail> {
-    let graph = places().build(rt.alloc())?;
-    assert_near(&rt, rt.alloc(), &graph, values())
+fn a_walk_passes_literals_and_constants(rt: HostRuntime) {
+    let graph = places().build(rt.alloc()).expect(&rt, FIT);
+    assert_near(&rt, rt.alloc(), &graph, values());
 }
 
 /// Leads to itself and to one.
@@ -259,9 +257,9 @@ fn cycles() -> &'static [Case] {
 }
 
 #[test]
-fn a_walk_passes_only_edges_that_lead_further(rt: HostRuntime) -> Result<(), Fail> {
-    let graph = places().build(rt.alloc())?;
-    assert_near(&rt, rt.alloc(), &graph, cycles())
+fn a_walk_passes_only_edges_that_lead_further(rt: HostRuntime) {
+    let graph = places().build(rt.alloc()).expect(&rt, FIT);
+    assert_near(&rt, rt.alloc(), &graph, cycles());
 }
 
 /// Leads to one.
@@ -312,7 +310,7 @@ fn several() -> &'static [Case] {
 }
 
 #[test]
-fn each_key_of_a_type_is_asked(rt: HostRuntime) -> Result<(), Fail> {
-    let graph = places().build(rt.alloc())?;
-    assert_near(&rt, rt.alloc(), &graph, several())
+fn each_key_of_a_type_is_asked(rt: HostRuntime) {
+    let graph = places().build(rt.alloc()).expect(&rt, FIT);
+    assert_near(&rt, rt.alloc(), &graph, several());
 }

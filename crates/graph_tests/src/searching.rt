@@ -2,6 +2,7 @@
 
 ghost use Rattle.std.specs.Prelude.{◌≡◌, ◌<◌, ◌^◌, All, IfOk, length};
 
+use crate::{ENOUGH, FIT};
 use chase_laws::{Pattern, Places};
 use fixtures::worked_graphs::{folded_values, two_pairs, woven};
 use fixtures::worked_patterns::{self, FOLDED, NAME_AND_CODE, NAME_AND_NEXT, VALUE};
@@ -10,7 +11,6 @@ use gk_base::NoMemory;
 use paired_search::{Finding, View, plan_all, search};
 use std::alloc::Global;
 use std::process::Abort;
-use std::test::Fail;
 use typed_graph::Graph;
 
 /// A view with two names and room for one more.
@@ -25,28 +25,25 @@ fn two_labels(alloc: Global) -> Result<View, NoMemory>
 }
 
 #[test]
-fn a_view_finds_labels(rt: HostRuntime) -> Result<(), Fail> {
-    let view = two_labels(rt.alloc())?;
+fn a_view_finds_labels(rt: HostRuntime) {
+    let view = two_labels(rt.alloc()).expect(&rt, ENOUGH);
     assert!(rt; view.label(2) == Some(7) && view.label(3) == None && view.label(5) == Some(1));
     assert!(rt; view.same(4, 4) && !view.same(2, 5) && !view.same(3, 6));
-    Ok(())
 }
 
 #[test]
-fn a_view_goes_by_places_and_has_room(rt: HostRuntime) -> Result<(), Fail> {
-    let view = two_labels(rt.alloc())?;
+fn a_view_goes_by_places_and_has_room(rt: HostRuntime) {
+    let view = two_labels(rt.alloc()).expect(&rt, ENOUGH);
     assert!(rt; view.at(1) == (5, 1) && view.len() == 2 && view.room() == 3);
-    Ok(())
 }
 
 #[test]
-fn a_cleared_view_keeps_its_room(rt: HostRuntime) -> Result<(), Fail> {
-    let mut view = two_labels(rt.alloc())?;
+fn a_cleared_view_keeps_its_room(rt: HostRuntime) {
+    let mut view = two_labels(rt.alloc()).expect(&rt, ENOUGH);
     view.clear();
     view.push(0, 4);
     view.push(1, 4);
     assert!(rt; view.label(1) == Some(4) && view.same(0, 1) && view.len() == 2);
-    Ok(())
 }
 
 /// Whether a list has exactly these names.
@@ -112,13 +109,12 @@ fn assert_found(
     keys: &[PatternTable<'_>],
     view: &View,
     looks: &[Look],
-) -> Result<(), Fail> {
-    let patterns = patterns_of(alloc, keys)?;
+) {
+    let patterns = patterns_of(alloc, keys).expect(rt, FIT);
     for (place, look) in looks.iter().enumerate() {
-        let is = finds(alloc, graph, &patterns, view, look)?;
+        let is = finds(alloc, graph, &patterns, view, look).expect(rt, ENOUGH);
         assert!(rt; is, "look {place}");
     }
-    Ok(())
 }
 
 // The keys, behind functions, so that the proofs of the tests do not see them.
@@ -212,10 +208,10 @@ fn with_one_label() -> &'static [Look] {
 }
 
 #[test]
-fn neighbours_are_compared_by_the_view(rt: HostRuntime) -> Result<(), Fail> {
+fn neighbours_are_compared_by_the_view(rt: HostRuntime) {
     let alloc = rt.alloc();
-    let graph = two_pairs().build(alloc)?;
-    let own = view_with(alloc, 3)?;
+    let graph = two_pairs().build(alloc).expect(&rt, FIT);
+    let own = view_with(alloc, 3).expect(&rt, ENOUGH);
     assert_found(
         &rt,
         alloc,
@@ -223,8 +219,8 @@ fn neighbours_are_compared_by_the_view(rt: HostRuntime) -> Result<(), Fail> {
         by_code_and_next(),
         &own,
         with_own_labels(),
-    )?;
-    let one = view_with(alloc, 0)?;
+    );
+    let one = view_with(alloc, 0).expect(&rt, ENOUGH);
     assert_found(
         &rt,
         alloc,
@@ -232,7 +228,7 @@ fn neighbours_are_compared_by_the_view(rt: HostRuntime) -> Result<(), Fail> {
         by_code_and_next(),
         &one,
         with_one_label(),
-    )
+    );
 }
 
 /// Two literals that are alike, by a folded value.
@@ -262,12 +258,12 @@ fn not_equal() -> &'static [Look] {
 }
 
 #[test]
-fn folded_values_are_alike_and_values_equal(rt: HostRuntime) -> Result<(), Fail> {
+fn folded_values_are_alike_and_values_equal(rt: HostRuntime) {
     let alloc = rt.alloc();
-    let graph = folded_values().build(alloc)?;
-    let view = View::new(alloc, 0)?;
-    assert_found(&rt, alloc, &graph, by_folded(), &view, alike())?;
-    assert_found(&rt, alloc, &graph, by_value(), &view, not_equal())
+    let graph = folded_values().build(alloc).expect(&rt, FIT);
+    let view = View::new(alloc, 0).expect(&rt, ENOUGH);
+    assert_found(&rt, alloc, &graph, by_folded(), &view, alike());
+    assert_found(&rt, alloc, &graph, by_value(), &view, not_equal());
 }
 
 /// Constant, neighbour and wildcard are the same names on both sides, and then the wildcard is another. Then one side
@@ -363,9 +359,9 @@ fn one_row_less() -> &'static [Look] {
 }
 
 #[test]
-fn every_edge_and_kind_is_asked_for(rt: HostRuntime) -> Result<(), Fail> {
+fn every_edge_and_kind_is_asked_for(rt: HostRuntime) {
     let alloc = rt.alloc();
-    let graph = woven().build(alloc)?;
-    let view = View::new(alloc, 0)?;
-    assert_found(&rt, alloc, &graph, by_woven(), &view, one_row_less())
+    let graph = woven().build(alloc).expect(&rt, FIT);
+    let view = View::new(alloc, 0).expect(&rt, ENOUGH);
+    assert_found(&rt, alloc, &graph, by_woven(), &view, one_row_less());
 }

@@ -1,5 +1,6 @@
 //! Which pairs are candidates.
 
+use crate::FIT;
 use chase_laws::Slot;
 use fixtures::worked_graphs::folded_values;
 use fixtures::worked_patterns::{FOLDED, NAME_AND_CODE, NAME_AND_NEXT, VALUE};
@@ -7,7 +8,6 @@ use fixtures::{GraphTable, PatternTable, patterns_of};
 use pair_seed::{SeedStop, TooManyPairs, seed};
 use std::alloc::Global;
 use std::process::Abort;
-use std::test::Fail;
 
 /// Entities of type 12 with one value under 4.
 const VALUE_OF_TWELVE: PatternTable<'static> = PatternTable {
@@ -79,21 +79,22 @@ fn world(rows: &[[u32; 3]]) -> GraphTable<'_> {
 
 /// The candidate pairs in a graph by the keys and the limit of a case, or why there are none.
 fn seeded(
+    rt: &impl Abort,
     alloc: Global,
     table: &GraphTable<'_>,
     case: &Case,
-) -> Result<Result<Vec<(u32, u32)>, SeedStop>, Fail> {
-    let graph = table.build(alloc)?;
-    let keys = patterns_of(alloc, case.keys)?;
-    Ok(seed(alloc, &graph, &keys, u64::from(case.limit)))
+) -> Result<Vec<(u32, u32)>, SeedStop> {
+    let graph = table.build(alloc).expect(rt, FIT);
+    let keys = patterns_of(alloc, case.keys).expect(rt, FIT);
+    seed(alloc, &graph, &keys, u64::from(case.limit))
 }
 
 /// Whether the candidate pairs in a graph are those that a case names, or are too many as it says.
-fn holds(alloc: Global, table: &GraphTable<'_>, case: &Case) -> Result<bool, Fail> {
-    match (seeded(alloc, table, case)?, case.wanted) {
-        (Ok(pairs), Ok(wanted)) => Ok(pairs.as_slice() == wanted),
-        (Err(stop), Err(found)) => Ok(stop == SeedStop::Fault(TooManyPairs { found })),
-        (Ok(_), Err(_)) | (Err(_), Ok(_)) => Ok(false),
+fn holds(rt: &impl Abort, alloc: Global, table: &GraphTable<'_>, case: &Case) -> bool {
+    match (seeded(rt, alloc, table, case), case.wanted) {
+        (Ok(pairs), Ok(wanted)) => pairs.as_slice() == wanted,
+        (Err(stop), Err(found)) => stop == SeedStop::Fault(TooManyPairs { found }),
+        (Ok(_), Err(_)) | (Err(_), Ok(_)) => false,
     }
 }
 
@@ -415,12 +416,11 @@ fn cases() -> &'static [Case] {
 }
 
 #[test]
-fn pairs_are_those_that_share_what_a_key_asks_for(rt: HostRuntime) -> Result<(), Fail> {
+fn pairs_are_those_that_share_what_a_key_asks_for(rt: HostRuntime) {
     for (place, case) in cases().iter().enumerate() {
-        let is = holds(rt.alloc(), &world(case.rows), case)?;
+        let is = holds(&rt, rt.alloc(), &world(case.rows), case);
         assert!(rt; is, "case {place}");
     }
-    Ok(())
 }
 
 /// A folded value, a value, and a folded value where nothing has a type. The rows are those of `folded_values`.
@@ -450,21 +450,19 @@ fn alike() -> [&'static Case; 3] {
 }
 
 #[test]
-fn folded_values_pair_what_is_alike(rt: HostRuntime) -> Result<(), Fail> {
+fn folded_values_pair_what_is_alike(rt: HostRuntime) {
     let typed = folded_values();
     let [folded, value, _] = alike();
-    assert!(rt; holds(rt.alloc(), &typed, folded)?);
-    assert!(rt; holds(rt.alloc(), &typed, value)?);
-    Ok(())
+    assert!(rt; holds(&rt, rt.alloc(), &typed, folded));
+    assert!(rt; holds(&rt, rt.alloc(), &typed, value));
 }
 
 #[test]
-fn what_has_no_type_is_not_paired(rt: HostRuntime) -> Result<(), Fail> {
+fn what_has_no_type_is_not_paired(rt: HostRuntime) {
     let untyped = GraphTable {
         rdf_type: None,
         ..folded_values()
     };
     let [_, _, without_types] = alike();
-    assert!(rt; holds(rt.alloc(), &untyped, without_types)?);
-    Ok(())
+    assert!(rt; holds(&rt, rt.alloc(), &untyped, without_types));
 }
