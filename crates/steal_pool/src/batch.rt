@@ -1,13 +1,13 @@
 //! What a worker does with the chase in a turn: it settles the jobs that it has searched, and takes pairs for new ones.
 
-ghost use Rattle.std.specs.Prelude.{◌≡◌, ◌++◌, ◌<◌, ◌≤◌, ◌^◌, ◌↔◌, [], ℕ, List, All, IfSome, IsTrue, IsSome, None, Some, MatchOption, length, slice_index_or};
+ghost use Rattle.std.specs.Prelude.{◌≡◌, ◌++◌, ◌<◌, ◌≤◌, ◌^◌, ◌↔◌, [], ℕ, List, All, IfSome, IsTrue, IsSome, None, Some, MatchOption, if◌then◌else◌, length, slice_index_or};
 ghost use Rattle.chase_laws.specs.declared.entry.Entry.{Entry};
 ghost use Rattle.chase_laws.specs.Core.{ListsNear, PairAt};
 ghost use Rattle.chase_core.specs.declared.ticket.Outcome.TheVariants.{Found, Missed};
 ghost use Rattle.chase_core.specs.declared.ticket.Settled.{Settled};
 ghost use Rattle.chase_core.specs.Settling.{IsFoundBy, Settles};
 ghost use Rattle.chase_core.specs.Taking.{TakesFirst, TakesHint};
-ghost use Rattle.steal_pool.specs.declared.batch.Next.TheVariants.{End};
+ghost use Rattle.steal_pool.specs.declared.batch.Next.TheVariants.{End, Search};
 ghost use Rattle.steal_pool.specs.declared.workspace.Job.{Job};
 ghost use Rattle.steal_pool.specs.declared.workspace.Progress.TheVariants.{Free};
 ghost use Rattle.steal_pool.specs.Workspaces.{IsPlace, IsOwnDeque, IsWorkspace, ReachEach, Thief};
@@ -297,6 +297,17 @@ fn has_enough(shared: &Shared<'_>, is_full: bool, others: bool) -> bool {
     is_full || (others && shared.chase.ready_count() == 0)
 }
 
+/// Notes whether a batch has a pair, and answers what follows: a search where it has one, and else what is given.
+fn search_or(workspace: &mut Workspace, taken: bool, otherwise: Next) -> Next
+    ensures next { result ≡ (if taken then Search else otherwise) }
+    ensures noted { workspace.new ≡ record workspace.old { searches = taken } }
+    ensures jobs { workspace.new.jobs ≡ workspace.old.jobs }
+    ensures workspace { (n widest : ℕ) → (on : SeenBoard) → (thieves : List Thief) → IsWorkspace n widest on thieves workspace.old → IsWorkspace n widest on thieves workspace.new }
+{
+    workspace.searches = taken;
+    if taken { Next::Search } else { otherwise }
+}
+
 /// Takes pairs for the first jobs, at most so many. Without a hint it takes only where a pair is Ready or no other worker
 /// searches, since those that do may wake more.
 fn take_all(
@@ -327,18 +338,15 @@ fn take_all(
         dry = hint.is_none();
         let is_through = dry && has_enough(shared, woke && taken, others);
         if is_through {
-            workspace.searches = taken;
-            return if taken { Next::Search } else { Next::LookAgain };
+            return search_or(workspace, taken, Next::LookAgain);
         }
         if fill_job(shared, board, &mut workspace.jobs[k], hint) {
             taken = true;
         } else if dry {
-            workspace.searches = taken;
-            return if taken { Next::Search } else { Next::End };
+            return search_or(workspace, taken, Next::End);
         }
     }
-    workspace.searches = taken;
-    Next::Search
+    search_or(workspace, taken, Next::Search)
 }
 
 /// Notes how a turn went. The next batch may be twice as large, or a quarter of it where too many searches were for nothing: a
