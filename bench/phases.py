@@ -2,12 +2,13 @@
 """Times the phases of a match by 1, 2 and 4 workers on as many processors: reading and numbering of the graph, its indexes, the
 preparing of the chase, the chase, and the report.
 
-Usage: bench/phases.py [--program PROGRAM] [KIND SIZE ..]
+Usage: bench/phases.py [--spread] [--program PROGRAM] [KIND SIZE ..]
 
 The kinds are those of bench/graphs.py. Times are milliseconds by the clock: of several runs, which come in turn, the middle and
 the least. `MB` is the greatest part of memory in use. `times` is how often the time of one worker holds that of so many: the
 middle of the ratios of runs that stood side by side, and the ratio of the least. --program names a build of the measuring program
-that is there already. At the end stands the load of the machine.
+that is there already. --spread runs the program in the system's real-time class (`chrt`, which needs the right to), so that each
+thread that can run has a processor at once. At the end stands the load of the machine.
 """
 
 import os
@@ -19,7 +20,7 @@ import tempfile
 
 from building import build
 from graphs import written
-from timing import planned, print_load
+from timing import on_processors, planned, print_load, spread
 
 NEEDS = ["match_run", "steal_pool", "chase_core", "chase_laws", "typed_graph", "term_text", "term_table", "graph_rows", "key_lang",
          "gk_io", "gk_base", "anyhow"]
@@ -30,9 +31,9 @@ PHASES = ["read", "index", "prepare", "chase", "report"]
 ROUNDS = 7
 
 
-def timed(program, graph, keys, workers):
+def timed(program, graph, keys, workers, is_spread):
     """The milliseconds of each phase and of all, and the megabytes."""
-    command = ["taskset", "-c", PROCESSORS[workers], str(program), str(graph), str(keys), str(workers)]
+    command = [*on_processors(PROCESSORS[workers], is_spread), str(program), str(graph), str(keys), str(workers)]
     child = subprocess.Popen(command, stdout=subprocess.PIPE, text=True)
     out = child.stdout.read()
     _, status, usage = os.wait4(child.pid, 0)
@@ -42,9 +43,9 @@ def timed(program, graph, keys, workers):
     return [*phases, sum(phases)], usage.ru_maxrss / 1024
 
 
-def measure(program, folder, kind, size):
+def measure(program, folder, kind, size, is_spread):
     graph, keys = written(folder, kind, size)
-    rounds = [{workers: timed(program, graph, keys, workers) for workers in PROCESSORS} for _ in range(ROUNDS)]
+    rounds = [{workers: timed(program, graph, keys, workers, is_spread) for workers in PROCESSORS} for _ in range(ROUNDS)]
     for workers in PROCESSORS:
         runs = [one[workers][0] for one in rounds]
         ratios = [one[1][0][-1] / one[workers][0][-1] for one in rounds]
@@ -57,7 +58,7 @@ def measure(program, folder, kind, size):
 
 
 def main():
-    words = sys.argv[1:]
+    is_spread, words = spread(sys.argv[1:])
     given = None
     if words[:1] == ["--program"]:
         given, words = pathlib.Path(words[1]), words[2:]
@@ -66,7 +67,7 @@ def main():
         program = given or build(folder, "phase_times", NEEDS)
         print(f"{'graph':>12} {'size':>8} {'by':>2} ", *(f"{phase:>12}" for phase in [*PHASES, "all"]), f"{'MB':>6} {'times':>11}")
         for kind, size in planned(words, PLAN):
-            measure(program, folder, kind, size)
+            measure(program, folder, kind, size, is_spread)
     print_load()
 
 

@@ -37,6 +37,19 @@ def planned(words, plan):
     return [(kind, int(size)) for kind, size in zip(words[::2], words[1::2], strict=True)] if words else plan
 
 
+def spread(words):
+    """Whether the words begin with `--spread`, and the words that are left."""
+    return (True, words[1:]) if words[:1] == ["--spread"] else (False, words)
+
+
+def on_processors(processors, is_spread):
+    """The words before a command that runs on these processors alone. Where it is spread, it runs in the system's real-time class:
+    each thread that can run then has a processor at once where one is free. Kernels of some virtual machines put a thread that
+    wakes beside one that runs, and give it a processor of its own only after some milliseconds (`sched_vcpu_pack` in
+    /proc/cmdline)."""
+    return [*(["chrt", "--rr", "1"] if is_spread else []), "taskset", "-c", processors]
+
+
 def print_the_same(commands, case):
     """Ends the script where not all of the commands print the same bytes."""
     if len({subprocess.run(command, stdout=subprocess.PIPE, check=True).stdout for command in commands}) > 1:
