@@ -178,7 +178,8 @@ fn read_behind<S: Shelf, R: Threads + Wait + Sync>(
 ///
 /// `threads` says how many threads may be used, the caller's among them. With 2 or more, the triples of some pieces are looked
 /// up and numbered while the next ones are read and judged; with 3 or more, two threads read and judge. With fewer, all is done
-/// on the caller's. The answer, and how far the file is read where it is refused, are the same.
+/// on the caller's. The answer is the same. How many bytes are gone beyond the one at which the file is refused, always fewer than
+/// 65,536, may be more with more threads.
 ///
 /// - `NoMemory` may come at any time, and says nothing of the file.
 /// - `FileFault::Failed`: the shelf could not find the file, or could not read it to its end.

@@ -57,8 +57,8 @@ fn kept_candidates<R: Threads + Sync>(
     Ok(Candidates { kept, seeded })
 }
 
-/// The candidate pairs that are kept, and the near lists. With two threads or more the near lists of a larger graph are made in a
-/// second one meanwhile, if one can be started. What stops the candidates is the answer, whatever became of the near lists.
+/// The candidate pairs that are kept, and the near lists. With two threads or more the near lists of a larger graph are made in one
+/// of their own meanwhile, if one can be started. What stops the candidates is the answer, whatever became of the near lists.
 fn candidates_and_near<R: Threads + Sync>(
     rt: &R,
     alloc: Global,
@@ -78,19 +78,21 @@ fn candidates_and_near<R: Threads + Sync>(
         let near = Near::build(alloc, graph, patterns)?;
         return Ok((candidates, near));
     }
+    // From three on one fewer, so that no thread waits for a processor while the near lists are made.
+    let others = threads.saturating_sub(1).max(2);
     let (near, candidates) = join(
         rt,
         || Near::build(alloc, graph, patterns),
         || -> Result<Candidates, SeedStop>
             requires { limit < 2 ^ 32 }
-        { kept_candidates(rt, alloc, threads, graph, patterns, limit) },
+        { kept_candidates(rt, alloc, others, graph, patterns, limit) },
     );
     Ok((candidates?, near?))
 }
 
 /// Prepares a chase of a graph under keys, over those of the candidate pairs that some key pairs to depth 2. `threads` says how
-/// many threads may find and filter them, the caller's among them; with two or more, one besides makes the near lists of a larger
-/// graph meanwhile. The answer is the same.
+/// many threads may work on it, the caller's among them; where there are two, a third makes the near lists of a larger graph. The
+/// answer is the same.
 ///
 /// `TooManyPairs` comes exactly where there are more candidate pairs than `limit`, and `NoMemory` where memory ran out.
 pub fn prepare<R: Threads + Sync>(
