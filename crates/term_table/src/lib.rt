@@ -10,10 +10,12 @@
 //! - `looking`: the same by several threads
 //! - `known`: what they tell of a term
 //! - `recent`: which terms of a list came before in it
+//! - `folded`: the literals of a list with their case folded
 //! - `folding`: which literals are the same but for case
 #![tactic(auto)]
 
 mod ahead;
+mod folded;
 mod folding;
 mod hashing;
 mod known;

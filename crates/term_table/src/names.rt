@@ -270,8 +270,9 @@ impl Names {
 
     /// For each name a number. A literal's is the least number of a literal of the same kind, with the same datatype or
     /// the same language tag, whose lexical form is equal once case is folded (Unicode's default case folding). What
-    /// is no literal has its own number.
-    pub fn alike(&self) -> Result<Vec<u32>, NoMemory>
+    /// is no literal has its own number. `threads` says how many threads may be used, the caller's among them; the answer is
+    /// the same.
+    pub fn alike<R: Threads + Sync>(&self, rt: &R, threads: u32) -> Result<Vec<u32>, NoMemory>
         ensures folds { IfOk result (λ numbers. FoldsOf self.now numbers.items) }
         ensures value { IfOk result (λ numbers. numbers.items ≡ folds_of self.now) }
 
@@ -285,6 +286,6 @@ impl Names {
         ensures others { IfOk result (λ numbers. (n : ℕ) → n < length self.now →
             ¬ (IsLiteralAt self.now n) → slice_index numbers.items n ≡ n) }
     {
-        folds(self.alloc, self.marks.hasher(), &self.terms)
+        folds(rt, self.alloc, threads, self.marks.hasher(), &self.terms)
     }
 }
