@@ -84,7 +84,7 @@ pub fn number_growth<R: Threads + Sync>(
 {
     let Rows { names, rows } = rows;
     let _ = keys.keys();
-    let whole = number_keys(alloc, names, keys)?;
+    let whole = number_keys(rt, alloc, threads, names, keys)?;
     let first = graph_over(rt, alloc, threads, &rows[..first], &whole)?;
     let NumberedKeys {
         names,

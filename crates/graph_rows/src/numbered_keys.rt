@@ -15,6 +15,7 @@ use chase_laws::{Pattern, Slot};
 use gk_base::{NoMemory, Term, Text};
 use key_lang::{KeyFile, compile};
 use std::alloc::Global;
+use std::thread::Threads;
 use term_table::Names;
 
 /// The IRI of `rdf:type`.
@@ -74,9 +75,11 @@ fn own_numbers(alloc: Global, count: u32) -> Result<Vec<u32>, NoMemory>
 }
 
 /// What each name is alike to. Only folded value variables ask for it, so where the keys have none, each name is alike to
-/// itself alone, and no literal is folded.
-pub(crate) fn alike_for(
+/// itself alone, and no literal is folded. `threads` says how many threads may be used, the caller's among them.
+pub(crate) fn alike_for<R: Threads + Sync>(
+    rt: &R,
     alloc: Global,
+    threads: u32,
     names: &Names,
     patterns: &[Pattern],
 ) -> Result<Vec<u32>, NoMemory>
@@ -91,7 +94,7 @@ pub(crate) fn alike_for(
         ¬ (IsLiteralAt names.now n) → slice_index numbers.items n ≡ n) }
 {
     if have_folded(patterns) {
-        names.alike()
+        names.alike(rt, threads)
     } else {
         own_numbers(alloc, names.len())
     }
@@ -112,10 +115,12 @@ pub(crate) struct NumberedKeys {
     pub(crate) alike: Vec<u32>,
 }
 
-/// The keys in numbers over these names. The keys' terms that are no names yet become names behind the others. Only want of
-/// memory stops it.
-pub(crate) fn number_keys(
+/// The keys in numbers over these names. The keys' terms that are no names yet become names behind the others. `threads` says how
+/// many threads may be used, the caller's among them; the answer is the same. Only want of memory stops it.
+pub(crate) fn number_keys<R: Threads + Sync>(
+    rt: &R,
     alloc: Global,
+    threads: u32,
     names: Names,
     keys: &KeyFile,
 ) -> Result<NumberedKeys, NoMemory>
@@ -132,7 +137,7 @@ pub(crate) fn number_keys(
     let patterns = compile(alloc, keys, &mut names)?;
     let literal = literal_flags(alloc, &names)?;
     let rdf_type = type_number(alloc, &names)?;
-    let alike = alike_for(alloc, &names, &patterns)?;
+    let alike = alike_for(rt, alloc, threads, &names, &patterns)?;
     Ok(NumberedKeys {
         names,
         patterns,

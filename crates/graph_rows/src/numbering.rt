@@ -42,7 +42,7 @@ pub fn number<R: Threads + Sync>(
 {
     let Rows { names, rows } = rows;
     let _ = keys.keys();
-    let whole = number_keys(alloc, names, keys)?;
+    let whole = number_keys(rt, alloc, threads, names, keys)?;
     let NumberedKeys {
         names,
         patterns,

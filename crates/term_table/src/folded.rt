@@ -21,6 +21,10 @@ const FEW: usize = 4_096;
 fn folded_form(alloc: Global, form: &[u8]) -> Result<Text, NoMemory>
     ensures { IfOk result (λ text. text ≡ folded_form form.now) }
 {
+    // Of ASCII, as most texts are, letters alone fold, and each to its small one: no table is asked.
+    if form.is_ascii() {
+        return Ok(Text::from_vec(form.to_ascii_lowercase(alloc)?));
+    }
     match str::from_utf8(form) {
         Ok(text) => {
             let folded = default_case_fold_str(alloc, text)?;

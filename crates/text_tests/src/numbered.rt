@@ -336,9 +336,13 @@ fn intern_rows(alloc: Global, names: &mut Names, rows: &[(Sample, u32)]) -> Resu
     Ok(())
 }
 
-/// For each name the number of the first that is alike to it.
-fn alike_numbers(names: &Names) -> Result<Vec<u32>, NoMemory> {
-    names.alike()
+/// For each name the number of the first that is alike to it, as so many threads find it.
+fn alike_numbers<R: Threads + Sync>(
+    rt: &R,
+    threads: u32,
+    names: &Names,
+) -> Result<Vec<u32>, NoMemory> {
+    names.alike(rt, threads)
 }
 
 /// Whether these are the numbers of the rows.
@@ -359,6 +363,51 @@ fn literals_are_alike_by_kind_datatype_tag_and_folded_form(rt: HostRuntime) {
     let alloc = rt.alloc();
     let mut names = Names::new(alloc);
     intern_rows(alloc, &mut names, alike_terms()).expect(&rt, "enough memory");
-    let numbers = alike_numbers(&names).expect(&rt, "enough memory");
+    let numbers = alike_numbers(&rt, 1, &names).expect(&rt, "enough memory");
     assert!(rt; are_numbers(&numbers, alike_terms()));
+}
+
+/// So many numbers that three threads share out what they are written as.
+const WRITTEN: u32 = 4_200;
+
+/// A number behind a letter, as a literal.
+fn lettered(alloc: Global, letter: char, number: u32) -> Result<Term, NoMemory> {
+    let mut form = String::new(alloc);
+    form.push(letter)?;
+    form.push_str(&number.to_string(alloc)?)?;
+    Ok(Term::Plain(Text::from_bytes(alloc, form.as_bytes())?))
+}
+
+/// Each number behind a small letter and then each behind a large one become names.
+fn intern_lettered(alloc: Global, names: &mut Names) -> Result<(), NoMemory> {
+    for letter in ['a', 'A'] {
+        for number in 0..WRITTEN {
+            let _ = number_of(names, lettered(alloc, letter, number)?)?;
+        }
+    }
+    Ok(())
+}
+
+/// Whether each number behind a letter has that number, whatever the letter's case.
+fn are_lettered(numbers: &[u32]) -> bool {
+    if numbers.len() != 2 * WRITTEN as usize {
+        return false;
+    }
+    for place in 0..numbers.len() {
+        if numbers[place] != place as u32 % WRITTEN {
+            return false;
+        }
+    }
+    true
+}
+
+#[test]
+fn three_threads_find_alike_what_one_does(rt: HostRuntime) {
+    let alloc = rt.alloc();
+    let mut names = Names::new(alloc);
+    intern_lettered(alloc, &mut names).expect(&rt, "enough memory");
+    for threads in [1, 3] {
+        let numbers = alike_numbers(&rt, threads, &names).expect(&rt, "enough memory");
+        assert!(rt; are_lettered(&numbers));
+    }
 }
