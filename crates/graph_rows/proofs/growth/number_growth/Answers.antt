@@ -8,8 +8,8 @@ use Rattle.graph_rows.proofs.NumberedRows.{named_of, names_few, names_numbered, 
 use Rattle.graph_rows.proofs.TwoGraphs.{front_told, told_graph, has_front}
 use Rattle.graph_rows.proofs.growth.number_growth.Goals as goal
 
-pub number_keys-requires : goal.number_keys-requires
-number_keys-requires g c =
+pub number_keys-requires-clause-room : goal.number_keys-requires-clause-room
+number_keys-requires-clause-room g c κs within =
     let f = c.requires.few in
     let a = names_few c.args.rows f.0 f.1 in
     let b = c.keys.ensures.few_terms in

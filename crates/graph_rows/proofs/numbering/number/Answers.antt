@@ -6,8 +6,8 @@ use Rattle.key_file.proofs.CallerLemmas.{rows_within, type_within}
 use Rattle.graph_rows.proofs.NumberedRows.{named_of, names_few, names_numbered, numbered, few_patterns}
 use Rattle.graph_rows.proofs.numbering.number.Goals as goal
 
-pub number_keys-requires : goal.number_keys-requires
-number_keys-requires g c =
+pub number_keys-requires-clause-room : goal.number_keys-requires-clause-room
+number_keys-requires-clause-room g c κs within =
     let f = c.requires.few in
     let a = names_few c.args.rows f.0 f.1 in
     let b = c.keys.ensures.few_terms in
