@@ -5,16 +5,17 @@ use std::sync::atomic::{AtomicU64, Ordering};
 /// Turns are judged together by so many at least.
 const TURNS: u64 = 512;
 
-/// And so that they settle one in so many of the pairs that were Ready at first: where workers are of no use only at the
-/// beginning, they stay together.
+/// They are forgotten when they have settled one in so many of the pairs that were Ready at first, so that what a crew does later is
+/// not judged by its beginning.
 const PART: u64 = 4;
 
 /// Several workers are of no use where, on an average, one in so many of the others, or more, waits when a turn ends, so that
 /// searches are short beside turns,
 const WAITED: u64 = 4;
 
-/// and where of the pairs that are settled one in so many, or more, came to an entry or was searched for nothing.
-const SPENT: u64 = 4;
+/// and where of the pairs that are settled the rest, which neither came to an entry nor was searched for nothing, is no more than
+/// one in so many.
+const REST: u64 = 4;
 
 /// What some turns came to.
 #[derive(Clone, Copy)]
@@ -29,22 +30,16 @@ struct Sums {
 }
 
 impl Sums {
-    /// Whether they are enough to be judged, where so many pairs were Ready at first.
+    /// Whether they are as many as are judged together, where so many pairs were Ready at first.
     fn are_enough(&self, ready: u64) -> bool {
         self.turns >= TURNS && self.settled.saturating_mul(PART) >= ready
     }
 
-    /// Whether so many others were of no use in them.
+    /// Whether so many others were of no use in them: next to nothing came of the searches but entries and waste.
     fn are_crowded(&self, others: u64) -> bool {
-        self.waited.saturating_mul(WAITED) >= others.saturating_mul(self.turns)
-            && self.spent.saturating_mul(SPENT) >= self.settled
-    }
-
-    /// Whether they were of no use at all: next to nothing came of the searches but entries and waste. A few turns tell that.
-    fn are_overcrowded(&self, others: u64) -> bool {
         self.turns >= TURNS
-            && self.are_crowded(others)
-            && self.settled.saturating_sub(self.spent) <= self.settled / 4
+            && self.waited.saturating_mul(WAITED) >= others.saturating_mul(self.turns)
+            && self.settled.saturating_sub(self.spent) <= self.settled / REST
     }
 }
 
@@ -89,11 +84,10 @@ impl Tally {
             spent: add(&self.spent, spent),
             waited: add(&self.waited, waiting),
         };
-        let enough = sums.are_enough(self.ready);
-        if sums.are_overcrowded(others) || (enough && sums.are_crowded(others)) {
+        if sums.are_crowded(others) {
             self.crowded.store(1, Ordering::SeqCst);
         }
-        if enough {
+        if sums.are_enough(self.ready) {
             self.begin_anew();
         }
     }
