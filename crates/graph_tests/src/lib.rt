@@ -3,6 +3,7 @@
 //!
 //! - `filtering`: which candidate pairs a filter keeps
 //! - `graphs`: a graph and its look-ups
+//! - `near_runs`: near lists of many names by several threads
 //! - `nearness`: what is near to what
 //! - `plans`: in which order a search goes through slots
 //! - `searching`: what a search with a view finds
@@ -13,6 +14,8 @@
 mod filtering;
 #[cfg(test)]
 mod graphs;
+#[cfg(test)]
+mod near_runs;
 #[cfg(test)]
 mod nearness;
 #[cfg(test)]

@@ -1,10 +1,10 @@
 //! The entities that walks by all keys reach from each name.
 
-ghost use Rattle.std.specs.Prelude.{◌≡◌, ◌<◌, ◌↔◌, ℕ, All, Contains, IfOk, OnOk, length};
+ghost use Rattle.std.specs.Prelude.{◌≡◌, ◌≤◌, ◌+◌, ◌↔◌, ℕ, All, Contains, IfOk, OnOk, length};
 ghost use Rattle.std.specs.List.Sorted.{IsStrictlyIncreasing};
 ghost use Rattle.chase_laws.specs.Near.{IsNear};
-ghost use Rattle.list_pool.specs.Pool.{list_at};
 ghost use Rattle.near_lists.specs.Legs.{AreLegs, AreTours};
+ghost use Rattle.near_lists.specs.Neighbourhoods.{AreNearFrom};
 
 use crate::legs::{Leg, legs_of};
 use crate::rows::Rows;
@@ -17,7 +17,7 @@ use typed_graph::Graph;
 
 /// The legs of walks along one pattern. Contracts see the list.
 #[derive(Drop)]
-struct Tour {
+pub(crate) struct Tour {
     legs: Vec<Leg>,
 }
 
@@ -48,7 +48,7 @@ impl Tour {
 }
 
 /// The tour of each pattern.
-fn tours(alloc: Global, patterns: &[Pattern]) -> Result<Vec<Tour>, NoMemory>
+pub(crate) fn tours(alloc: Global, patterns: &[Pattern]) -> Result<Vec<Tour>, NoMemory>
     ensures { IfOk result (λ v. AreTours patterns.now v.items) }
 {
     let mut tours = Vec::new(alloc);
@@ -79,19 +79,26 @@ fn find(
     Ok(())
 }
 
-/// For each name the entities near to it, ascending.
-pub fn near_rows(alloc: Global, graph: &Graph, patterns: &[Pattern]) -> Result<Rows, NoMemory>
-    ensures one_each { IfOk result (λ r. length r ≡ length graph.now.literal) }
+/// The entities near to each of the names from one up to another, ascending.
+pub(crate) fn rows_along(
+    alloc: Global,
+    graph: &Graph,
+    patterns: &[Pattern],
+    tours: &[Tour],
+    from: u32,
+    to: u32,
+) -> Result<Rows, NoMemory>
+    requires run { from ≤ to }
+    requires tours { AreTours patterns.now tours.now }
+    ensures one_each { IfOk result (λ r. from + length r ≡ to) }
     ensures ascending { IfOk result (All IsStrictlyIncreasing) }
-    ensures exact { IfOk result (λ r. (e : ℕ) → e < length graph.now.literal → (n : ℕ) →
-        Contains (list_at r e) n ↔ IsNear graph.now patterns.now e n) }
+    ensures exact { IfOk result (AreNearFrom graph.now patterns.now from) }
 {
-    let tours = tours(alloc, patterns)?;
     let mut walk = Walk::new(alloc)?;
     let mut entities = Vec::new(alloc);
     let mut near = Rows::new(alloc)?;
-    for e in 0..graph.names() {
-        find(graph, patterns, &tours, e, &mut walk, &mut entities)?;
+    for e in from..to {
+        find(graph, patterns, tours, e, &mut walk, &mut entities)?;
         near.push(&entities)?;
     }
     Ok(near)
