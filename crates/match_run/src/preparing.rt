@@ -57,8 +57,8 @@ fn kept_candidates<R: Threads + Sync>(
     Ok(Candidates { kept, seeded })
 }
 
-/// The candidate pairs that are kept, and the near lists. With two threads or more the near lists of a larger graph are made in one
-/// of their own meanwhile, if one can be started. What stops the candidates is the answer, whatever became of the near lists.
+/// The candidate pairs that are kept, and the near lists. With two threads or more the near lists of a larger graph are made
+/// meanwhile, by half as many more. What stops the candidates is the answer, whatever became of the near lists.
 fn candidates_and_near<R: Threads + Sync>(
     rt: &R,
     alloc: Global,
@@ -78,11 +78,11 @@ fn candidates_and_near<R: Threads + Sync>(
         let near = Near::build(alloc, graph, patterns)?;
         return Ok((candidates, near));
     }
-    // From three on one fewer, so that no thread waits for a processor while the near lists are made.
+    // From three on one fewer, so that the near lists, which are made sooner, have a processor of their own.
     let others = threads.saturating_sub(1).max(2);
     let (near, candidates) = join(
         rt,
-        || Near::build(alloc, graph, patterns),
+        || Near::build_in_threads(rt, alloc, threads / 2, graph, patterns),
         || -> Result<Candidates, SeedStop>
             requires { limit < 2 ^ 32 }
         { kept_candidates(rt, alloc, others, graph, patterns, limit) },
