@@ -9,15 +9,17 @@ use typed_graph::Graph;
 /// At so many places of a run it is asked what a pair costs.
 const SAMPLES: usize = 64;
 
-/// About what it costs to filter a pair: how many edges the keys have that designate a type of its first name.
+/// About what it costs to filter a pair: over the keys that designate a type of its first name the square of the number of edges,
+/// since each may be asked, and again each at what it leads to.
 fn cost(graph: &Graph, patterns: &[Pattern], name: u32) -> u64 {
-    let mut edges: u64 = 0;
+    let mut all: u64 = 0;
     for pattern in patterns {
         if graph.fits_slot(Slot::Entity(pattern.designated_type()), name) {
-            edges = edges.saturating_add(edge_count(pattern) as u64);
+            let edges = edge_count(pattern) as u64;
+            all = all.saturating_add(edges.saturating_mul(edges));
         }
     }
-    edges
+    all
 }
 
 /// What the pair at a place costs.

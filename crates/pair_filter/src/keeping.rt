@@ -25,6 +25,10 @@ use typed_graph::Graph;
 /// Below so many pairs a thread costs more than it saves.
 const FEW: usize = 2048;
 
+/// Of so many names at most something is kept for each pair that is filtered, so all of it takes no more than 60 bytes a pair. The
+/// chase takes most of that again when the pairs are filtered.
+const NAMES_A_PAIR: usize = 12;
+
 /// Pairs that are kept, and at the same places the keys that may identify each.
 #[derive(Drop)]
 pub struct KeptPairs {
@@ -32,12 +36,14 @@ pub struct KeptPairs {
     pub keys: Vec<KeyRange>,
 }
 
-/// Those of some pairs that are kept, in order, on the caller's thread.
+/// Those of some pairs that are kept, in order, on the caller's thread. Of so many names as there is room for something is kept
+/// meanwhile.
 fn keep_alone(
     alloc: Global,
     graph: &Graph,
     patterns: &[Pattern],
     pairs: &[(u32, u32)],
+    room: usize,
 ) -> Result<KeptPairs, NoMemory>
     ensures kept { IfOk result (λ v. IsSelection (λ x. ArePairedBy graph.now patterns.now 2 x.0 x.1) pairs.now v.pairs.items) }
     ensures keys { IfOk result (λ v. AllZip (λ x range. AreKeysOf graph.now patterns.now range x.0 x.1) v.pairs.items v.keys.items) }
@@ -45,7 +51,7 @@ fn keep_alone(
     let mut kept = Vec::with_capacity(alloc, pairs.len())?;
     let mut keys = Vec::with_capacity(alloc, pairs.len())?;
     let mut reach = all_keys(patterns, 0);
-    let mut memo = Memo::new(alloc, graph.names(), patterns.len(), pairs.len())?;
+    let mut memo = Memo::new(alloc, graph.names(), patterns.len(), room)?;
     for place in 0..pairs.len() {
         let pair = pairs[place];
         if !is_for(&reach, pair) {
@@ -61,8 +67,8 @@ fn keep_alone(
 }
 
 /// The same. With two threads or more the threads are shared out among the two parts of a longer run of pairs, which is cut so that
-/// each part seems to have its threads' share of the work, and what is kept of each is joined in order. Where a thread can't be
-/// started the caller does its work.
+/// each part seems to have its threads' share of the work, and what is kept of each is joined in order. The room is shared out among
+/// the threads. Where a thread can't be started the caller does its work.
 #[cycle(halves)]
 fn keep_in_threads<R: Threads + Sync>(
     rt: &R,
@@ -71,24 +77,32 @@ fn keep_in_threads<R: Threads + Sync>(
     graph: &Graph,
     patterns: &[Pattern],
     pairs: &[(u32, u32)],
+    room: usize,
 ) -> Result<KeptPairs, NoMemory>
     ensures kept { IfOk result (λ v. IsSelection (λ x. ArePairedBy graph.now patterns.now 2 x.0 x.1) pairs.now v.pairs.items) }
     ensures keys { IfOk result (λ v. AllZip (λ x range. AreKeysOf graph.now patterns.now range x.0 x.1) v.pairs.items v.keys.items) }
 {
     if threads < 2 || pairs.len() < FEW {
-        return keep_alone(alloc, graph, patterns, pairs);
+        return keep_alone(alloc, graph, patterns, pairs, room);
     }
     let theirs = threads / 2;
     let ours = threads - theirs;
+    let share = room / threads as usize;
     let (below, above) = pairs.split_at(cut_at(graph, patterns, pairs, theirs, threads));
     let lower = move || -> Result<KeptPairs, NoMemory>
         requires { IsSync R.row }
         ensures { IfOk result (λ v. IsSelection (λ x. ArePairedBy graph.entry.now patterns.entry.now 2 x.0 x.1) below.entry.now v.pairs.items × AllZip (λ x range. AreKeysOf graph.entry.now patterns.entry.now range x.0 x.1) v.pairs.items v.keys.items) }
-    { keep_in_threads(rt, alloc, theirs, graph, patterns, below) };
+    {
+        let room = share.saturating_mul(theirs as usize);
+        keep_in_threads(rt, alloc, theirs, graph, patterns, below, room)
+    };
     let upper = move || -> Result<KeptPairs, NoMemory>
         requires { IsSync R.row }
         ensures { IfOk result (λ v. IsSelection (λ x. ArePairedBy graph.entry.now patterns.entry.now 2 x.0 x.1) above.entry.now v.pairs.items × AllZip (λ x range. AreKeysOf graph.entry.now patterns.entry.now range x.0 x.1) v.pairs.items v.keys.items) }
-    { keep_in_threads(rt, alloc, ours, graph, patterns, above) };
+    {
+        let room = share.saturating_mul(ours as usize);
+        keep_in_threads(rt, alloc, ours, graph, patterns, above, room)
+    };
     let (low, high) = join(rt, lower, upper);
     let mut kept = low?;
     let mut rest = high?;
@@ -119,7 +133,8 @@ pub fn keep_with_keys<R: Threads + Sync>(
 {
     // A fact for the proof: able pairs are paired.
     law_paired();
-    let kept = keep_in_threads(rt, alloc, threads, graph, patterns, pairs)?;
+    let room = pairs.len().saturating_mul(NAMES_A_PAIR);
+    let kept = keep_in_threads(rt, alloc, threads, graph, patterns, pairs, room)?;
     Ok(kept)
 }
 

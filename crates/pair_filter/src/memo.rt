@@ -12,11 +12,11 @@ use gk_base::NoMemory;
 use std::alloc::Global;
 use typed_graph::Graph;
 
-/// Of so many names at most something is kept for each pair that is filtered. A name takes 5 bytes, so all of it takes no more than
-/// 30 bytes a pair, which the chase takes again when the pairs are filtered.
-const NAMES_A_PAIR: usize = 6;
+/// Nothing is kept under a key before it has paired one pair for so many names. Of few pairs it saves less than making room for all
+/// names takes, and room would be gone that another key needs more.
+const NAMES_A_TOLD_PAIR: usize = 1_024;
 
-/// What is known of names under each key. Of a key's names nothing is kept before the first pair is told.
+/// What is known of names under each key. Of a key's names nothing is kept before some pairs were told.
 #[derive(Drop)]
 pub(crate) struct Memo {
     alloc: Global,
@@ -25,18 +25,16 @@ pub(crate) struct Memo {
     /// Of how many names more something may be known.
     room: usize,
     keys: Vec<Peers>,
+    /// How many pairs each key has paired while nothing was kept.
+    told: Vec<usize>,
     /// Of each key the place of the edge that has ruled out two names last, or 0.
     first_edges: Vec<usize>,
 }
 
 impl Memo {
-    /// Nothing is known under any of so many keys.
-    pub(crate) fn new(
-        alloc: Global,
-        names: u32,
-        keys: usize,
-        pairs: usize,
-    ) -> Result<Memo, NoMemory>
+    /// Nothing is known under any of so many keys. Of so many names as there is room for something may be known, each counted once
+    /// a key. A name takes 5 bytes.
+    pub(crate) fn new(alloc: Global, names: u32, keys: usize, room: usize) -> Result<Memo, NoMemory>
         ensures { IfOk result (λ memo. (G : NumberedGraph) (K : List Shape) → IsMemo G K memo) }
     {
         let mut none = Vec::with_capacity(alloc, keys)?;
@@ -46,8 +44,9 @@ impl Memo {
         Ok(Memo {
             alloc,
             names,
-            room: pairs.saturating_mul(NAMES_A_PAIR),
+            room,
             keys: none,
+            told: vec![in alloc; 0; keys]?,
             first_edges: vec![in alloc; 0; keys]?,
         })
     }
@@ -105,8 +104,22 @@ impl Memo {
         self.keys[key].learn(graph, &patterns[key], pair, paired);
     }
 
-    /// Makes room for what is known under a key, if none was made and this pair is the first that the key pairs. Where it may not
-    /// be taken, nothing is kept.
+    /// Counts a pair that a key pairs, and says whether there were enough for it to pay that something is kept.
+    fn is_often_told(&mut self, key: usize) -> bool
+        ensures keys { self.new.keys ≡ self.old.keys }
+        ensures names { self.new.names ≡ self.old.names }
+        ensures room { self.new.room ≡ self.old.room }
+    {
+        if key >= self.told.len() {
+            return false;
+        }
+        let told = self.told[key].saturating_add(1);
+        self.told[key] = told;
+        told >= self.names as usize / NAMES_A_TOLD_PAIR
+    }
+
+    /// Makes room for what is known under a key, if none was made and with this pair it has paired enough. Where it may not be
+    /// taken, nothing is kept.
     fn begin(&mut self, key: usize, paired: bool)
         requires key { key < length self.old.keys.items }
         ensures count { length self.new.keys.items ≡ length self.old.keys.items }
@@ -114,6 +127,9 @@ impl Memo {
     {
         let names = self.names as usize;
         if !paired || self.room < names || !self.keys[key].is_of_none() {
+            return;
+        }
+        if !self.is_often_told(key) {
             return;
         }
         if let Ok(peers) = Peers::of(self.alloc, self.names) {
