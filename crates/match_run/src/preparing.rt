@@ -91,8 +91,8 @@ fn candidates_and_near<R: Threads + Sync>(
 }
 
 /// Prepares a chase of a graph under keys, over those of the candidate pairs that some key pairs to depth 2. `threads` says how
-/// many threads may work on it, the caller's among them; where there are two, a third makes the near lists of a larger graph. The
-/// answer is the same.
+/// many threads may work on it, the caller's among them, and up to half as many more may make the near lists of a larger graph
+/// meanwhile. The answer is the same.
 ///
 /// `TooManyPairs` comes exactly where there are more candidate pairs than `limit`, and `NoMemory` where memory ran out.
 pub fn prepare<R: Threads + Sync>(
