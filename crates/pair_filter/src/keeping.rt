@@ -25,8 +25,8 @@ use typed_graph::Graph;
 /// Below so many pairs a thread costs more than it saves.
 const FEW: usize = 2048;
 
-/// Of so many names at most something is kept for each pair that is filtered, so all of it takes no more than 60 bytes a pair. The
-/// chase takes most of that again when the pairs are filtered.
+/// Of so many names at most something is kept for each pair that is filtered, so all of it takes no more than 60 bytes a pair, and
+/// none when the pairs are filtered.
 const NAMES_A_PAIR: usize = 12;
 
 /// Pairs that are kept, and at the same places the keys that may identify each.

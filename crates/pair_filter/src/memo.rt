@@ -12,11 +12,11 @@ use gk_base::NoMemory;
 use std::alloc::Global;
 use typed_graph::Graph;
 
-/// Nothing is kept under a key before it has paired one pair for so many names. Of few pairs it saves less than making room for all
-/// names takes, and room would be gone that another key needs more.
+/// A key has to pair one pair for every so many names before anything is kept under it. Of few pairs that saves less than making
+/// room for all names takes, and another key may need the room more.
 const NAMES_A_TOLD_PAIR: usize = 1_024;
 
-/// What is known of names under each key. Of a key's names nothing is kept before some pairs were told.
+/// What is known of names under each key. Of a key's names nothing is kept before it has paired some pairs.
 #[derive(Drop)]
 pub(crate) struct Memo {
     alloc: Global,
