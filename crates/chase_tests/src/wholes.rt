@@ -8,7 +8,7 @@ use chase_laws::Pattern;
 use fixtures::worked_graphs::{albums, two_pairs};
 use fixtures::worked_patterns::{ALBUM_BY, ARTIST, NAME_AND_CODE, NAME_AND_NEXT};
 use fixtures::{GraphTable, PatternTable, patterns_of};
-use match_run::{Prepared, classes, prepare};
+use match_run::{Prepared, classes, prepare_graph};
 use pair_seed::{SeedStop, TooManyPairs};
 use std::alloc::Global;
 use std::process::Abort;
@@ -59,7 +59,15 @@ pub(crate) fn labels_by<R: Threads + Wait + Sync + Abort>(
     requires { (0 < workers) × (workers ≤ 64) }
 {
     let (graph, keys) = graph_and_keys(rt, alloc, table, keys);
-    classes(rt, alloc, graph, keys, u64::from(limit), workers, &OpenGate).expect(rt, "classes")
+    let Prepared { setup, .. } = prepare_graph(
+        rt,
+        alloc,
+        workers,
+        graph,
+        keys,
+        u64::from(limit),
+    ).expect(rt, "a setup");
+    classes(rt, alloc, setup, workers, &OpenGate).expect(rt, "classes")
 }
 
 /// What is prepared for a chase of a graph under keys.
@@ -71,7 +79,7 @@ pub(crate) fn prepared<R: Threads + Sync + Abort>(
     limit: u32,
 ) -> Result<Prepared, SeedStop> {
     let (graph, keys) = graph_and_keys(rt, alloc, table, keys);
-    prepare(rt, alloc, 1, graph, keys, u64::from(limit))
+    prepare_graph(rt, alloc, 1, graph, keys, u64::from(limit))
 }
 
 /// Whether these are the pairs of a setup.

@@ -4,7 +4,7 @@
 use crate::ENOUGH;
 use chase_laws::Slot;
 use fixtures::{GraphTable, PatternTable, patterns_of};
-use match_run::{Prepared, prepare};
+use match_run::{Prepared, prepare_graph};
 use std::alloc::{AllocError, Global};
 use std::process::Abort;
 use std::thread::Threads;
@@ -165,7 +165,7 @@ pub fn prepared<R: Threads + Sync + Abort>(
         alike: &[],
     };
     let made = match (table.build(alloc), patterns_of(alloc, keys())) {
-        (Ok(graph), Ok(keys)) => prepare(rt, alloc, 4, graph, keys, 1_000_000),
+        (Ok(graph), Ok(keys)) => prepare_graph(rt, alloc, 4, graph, keys, 1_000_000),
         _ => panic!(rt; "no graph and keys"),
     };
     match made {

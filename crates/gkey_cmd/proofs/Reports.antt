@@ -1,14 +1,12 @@
 -- The report of the graph that was built is that of the triples.
 use Rattle.std.proofs.Common.{List, ℕ, Bool, IsTrue, ◌↔◌, length, slice_index, ◌==◌, ◌≡◌, ◌∙◌, ◌<◌, sym, ap, subst, arith, eqb-true, eq-eqb}
 use Rattle.std.proofs.lemmas.List.{length-map}
-use Rattle.std.proofs.lemmas.List.Elements.{All-weaker}
 use Rattle.gk_base.specs.Term.{is_literal}
 use Rattle.gk_base.specs.declared.term.Term.{Term}
 use Rattle.gk_base.specs.declared.term.Triple.{Triple}
 use Rattle.chase_laws.specs.Graph.{NumberedGraph}
 use Rattle.chase_laws.specs.Shape.{Shape}
 use Rattle.chase_laws.specs.Chase.{AreSame}
-use Rattle.chase_laws.specs.Candidate.{IsCandidate}
 use Rattle.chase_laws.specs.SameRows.{HasRowsOf}
 use Rattle.chase_laws.specs.Report.{report_text}
 use Rattle.term_text.specs.CanonicalText.{texts_of}
@@ -18,6 +16,7 @@ use Rattle.gk_base.specs.declared.stop.Stop.{Stop}
 use Rattle.gk_base.specs.declared.stop.Stop.TheVariants.{NoMemory, Fault}
 use Rattle.pair_seed.specs.declared.stop.TooManyPairs.{TooManyPairs}
 use Rattle.match_run.specs.Classes.{AreClasses}
+use Rattle.match_run.proofs.CallerLemmas.{CandidateLaw, more_too}
 use Rattle.key_file.specs.KeyShape.{KeyShape}
 use Rattle.key_file.specs.Compile.{patterns_of}
 use Rattle.key_file.specs.Numbered.{names_for, graph_of}
@@ -25,21 +24,9 @@ use Rattle.graph_rows.specs.Numbered.{AreSameGraph}
 use Rattle.gkey_cmd.specs.Matched.{IsReport, HasTooManyPairs}
 use Rattle.gkey_cmd.specs.ChaseEnds.{IsRightChaseStop}
 
--- what the law of more rows says of the same names, and of candidates
+-- what the law of more rows says of the same names
 abbrev pub SameLaw : Type 0
 SameLaw = (G F : NumberedGraph) (K : List Shape) → HasRowsOf K G F → HasRowsOf K F G → (a b : ℕ) → AreSame G K a b ↔ AreSame F K a b
-
-abbrev pub CandidateLaw : Type 0
-CandidateLaw = (G F : NumberedGraph) (K : List Shape) → HasRowsOf K G F → (a b : ℕ) → IsCandidate G K a b → IsCandidate F K a b
-
--- more candidates in one graph are more in the other
-more_too : CandidateLaw → (G F : NumberedGraph) (K : List Shape) (limit : ℕ) → AreSameGraph K G F → HasMoreCandidates G K limit → HasMoreCandidates F K limit
-more_too law G F K limit s h = record {
-  pairs = h.pairs;
-  ascending = h.ascending;
-  candidates = All-weaker (λ x. IsCandidate G K x.0 x.1) (λ x. IsCandidate F K x.0 x.1) (λ x c. law G F K s.there x.0 x.1 c) h.pairs h.candidates;
-  more = h.more;
-}
 
 module _ (triples : List Triple) (keys : List KeyShape) (G : NumberedGraph) (names : List Term) (K : List Shape) (are_names : names ≡ names_for triples keys) (built : AreSameGraph K G (graph_of names triples)) (are_patterns : K ≡ patterns_of names keys) where
   pub has_names : length G.literal ≡ length names
@@ -65,10 +52,10 @@ module _ (triples : List Triple) (keys : List KeyShape) (G : NumberedGraph) (nam
       ((λ a b. slice_index labels a == slice_index labels b), same_of law labels c, e)
 
   pub too_many : CandidateLaw → (limit : ℕ) → HasMoreCandidates G K limit → HasTooManyPairs triples keys limit
-  too_many law limit h = said (λ F Q ns. HasMoreCandidates F Q limit) (more_too law G (graph_of names triples) K limit built h)
+  too_many law limit h = said (λ F Q ns. HasMoreCandidates F Q limit) (more_too law G (graph_of names triples) K limit built.there h)
 
   pub not_too_many : CandidateLaw → (limit : ℕ) → ¬ (HasMoreCandidates G K limit) → ¬ (HasTooManyPairs triples keys limit)
-  not_too_many law limit none_more h = none_more (more_too law (graph_of names triples) G K limit (record { there = built.back; back = built.there })
+  not_too_many law limit none_more h = none_more (more_too law (graph_of names triples) G K limit built.back
       (subst (λ k. HasMoreCandidates (graph_of names triples) k limit) (sym are_patterns) (subst (λ ns. HasMoreCandidates (graph_of ns triples) (patterns_of ns keys) limit) (sym are_names) h)))
 
   pub right_stop : CandidateLaw → (limit : ℕ) (stop : Stop TooManyPairs) → IsRightStop G K limit stop → IsRightChaseStop triples keys limit stop

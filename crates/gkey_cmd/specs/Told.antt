@@ -1,9 +1,11 @@
--- The texts that a finished chase is made into: this project's own words.
+-- What a chase of files works on, and the texts that it is made into when it is finished: this project's own words.
 use Rattle.std.specs.Prelude.{List, ℕ, true, All, map, length, Ok, ◌≡◌, ◌≤◌}
 use Rattle.gk_base.specs.declared.term.Term.{Term}
+use Rattle.gk_base.specs.declared.term.Triple.{Triple}
 use Rattle.chase_laws.specs.declared.entry.Entry.{Entry}
 use Rattle.chase_laws.specs.Shape.{Shape}
 use Rattle.chase_laws.specs.Graph.{NumberedGraph}
+use Rattle.chase_laws.specs.Core.{Task}
 use Rattle.chase_laws.specs.Joined.{links}
 use Rattle.match_run.specs.Classes.{AreClasses, IsFinishedJournal}
 use Rattle.term_table.specs.Numbering.{place_of}
@@ -12,11 +14,21 @@ use Rattle.proof_graph.specs.Tells.{TellsAll}
 use Rattle.proof_graph.specs.ProofText.{ProofSays}
 use Rattle.proof_graph.specs.CanonicalProof.{proof_text}
 use Rattle.key_file.specs.Name.{is_name}
+use Rattle.key_file.specs.KeyShape.{KeyShape}
+use Rattle.key_file.specs.Compile.{patterns_of}
+use Rattle.key_file.specs.Numbered.{names_for, graph_of}
+use Rattle.graph_rows.specs.Numbered.{AreSameGraph}
 use Rattle.term_text.specs.ReadBack.{CanBeSpelled}
 use Rattle.demo_graph.specs.Counts.{IsMemberCount, IsClassCount}
 use Rattle.demo_graph.specs.DemoLine.{demo_line_text}
 use Rattle.merge_graph.specs.MergedGraph.{same_label, triple_at, IsSortedText, AreApart}
 use Rattle.merge_graph.specs.Saying.{CanBeSaid, IsReadAsMerged}
+
+-- the names, and the graph and the patterns of a task, are those of these triples and keys, in numbers
+pub record AreOfFiles (terms : List Term) (task : Task) (triples : List Triple) (keys : List KeyShape) : Type 0 where
+  pub names : terms ≡ names_for triples keys
+  pub graph : AreSameGraph task.patterns task.graph (graph_of terms triples)
+  pub patterns : task.patterns ≡ patterns_of terms keys
 
 -- the numbers of the two terms that a step makes the same
 abbrev pub step_link : List Term → StepShape → ℕ × ℕ

@@ -11,13 +11,14 @@ ghost use Rattle.gkey_cmd.specs.Told.{TellsCounts};
 ghost use Rattle.gkey_cmd.specs.ChaseEnds.{IsRightChaseStop, DemoEnds};
 
 use crate::ending::{Ending, Refusal};
+use crate::prepared::prepare_files;
 use chase_core::Setup;
 use chase_laws::laws::law_rows;
 use demo_graph::{count_classes, demo_line};
 use gk_base::Stop;
-use graph_rows::{Rows, number};
+use graph_rows::Rows;
 use key_lang::KeyFile;
-use match_run::{chase_setup, prepare};
+use match_run::chase_setup;
 use pair_seed::SeedStop;
 use std::alloc::Global;
 use std::sync::Wait;
@@ -65,18 +66,10 @@ fn line_of<Rt: Threads + Wait + Sync, G: Gate>(
     ensures stop { IfErr result (λ stop. (triples : List AnyTriple) → StandFor rows triples → IsRightChaseStop triples keys.now limit stop) }
 {
     law_rows();
-    let numbered = number(rt, alloc, workers, rows, keys)?;
-    let triples = numbered.graph.rows().len() as u64;
-    let prepared = prepare(rt, alloc, workers, numbered.graph, numbered.patterns, limit)?;
-    line_over(
-        rt,
-        alloc,
-        &prepared.setup,
-        triples,
-        prepared.seeded,
-        workers,
-        gate,
-    )
+    let (_names, prepared) = prepare_files(rt, alloc, workers, rows, keys, limit)?;
+    let setup = &prepared.setup;
+    let triples = setup.graph().rows().len() as u64;
+    line_over(rt, alloc, setup, triples, prepared.seeded, workers, gate)
 }
 
 /// The line of a demo whose texts are read, or the ending of a run that has none.

@@ -24,7 +24,7 @@ use gk_base::{NoMemory, Stop, Text};
 use graph_rows::{Numbered, Rows, number};
 use key_file::KeyDef;
 use key_lang::KeyFile;
-use match_run::{chase_setup, prepare};
+use match_run::{chase_setup, prepare_graph};
 use pair_seed::SeedStop;
 use proof_check::law_proof;
 use proof_graph::{law_proof_read_back, put_proof};
@@ -161,7 +161,7 @@ fn reason<Rt: Threads + Wait + Sync, G: Gate>(
         graph,
         patterns,
     } = numbered;
-    let prepared = prepare(rt, alloc, workers, graph, patterns, limit)?;
+    let prepared = prepare_graph(rt, alloc, workers, graph, patterns, limit)?;
     reason_over(
         rt,
         alloc,

@@ -5,6 +5,7 @@
 //! - `words`: the commands and the words that ask for them
 //! - `file`: the files that a command reads
 //! - `order`: the order in which they are read, and what comes after the last
+//! - `prepared`: what a chase of files works on
 //! - `matched`, `proved`, `checked`, `converted`, `counted`, `merged`, `explained`, `grown`: what each command prints
 //! - `entities`: which entity of the graph a word names
 //! - `ending`: how a run ends, and what it leaves
@@ -23,6 +24,7 @@ mod grown;
 mod matched;
 mod merged;
 mod order;
+mod prepared;
 mod proved;
 mod texts;
 mod top;

@@ -7,11 +7,12 @@ ghost use Rattle.gkey_cmd.specs.Matched.{IsReport, HasTooManyPairs};
 ghost use Rattle.gkey_cmd.specs.ChaseEnds.{IsRightChaseStop, MatchEnds};
 
 use crate::ending::{Ending, Refusal};
+use crate::prepared::prepare_files;
 use chase_laws::laws::law_rows;
 use gk_base::Stop;
-use graph_rows::{Rows, number};
+use graph_rows::Rows;
 use key_lang::KeyFile;
-use match_run::classes;
+use match_run::{Prepared, classes};
 use pair_seed::SeedStop;
 use std::alloc::Global;
 use std::sync::Wait;
@@ -39,17 +40,10 @@ fn report_of<Rt: Threads + Wait + Sync, G: Gate>(
     ensures stop { IfErr result (λ stop. (triples : List AnyTriple) → StandFor rows triples → IsRightChaseStop triples keys.now limit stop) }
 {
     law_rows();
-    let numbered = number(rt, alloc, workers, rows, keys)?;
-    let labels = classes(
-        rt,
-        alloc,
-        numbered.graph,
-        numbered.patterns,
-        limit,
-        workers,
-        gate,
-    )?;
-    let report = report(rt, alloc, workers, &numbered.names, &labels)?;
+    let (names, prepared) = prepare_files(rt, alloc, workers, rows, keys, limit)?;
+    let Prepared { setup, .. } = prepared;
+    let labels = classes(rt, alloc, setup, workers, gate)?;
+    let report = report(rt, alloc, workers, &names, &labels)?;
     Ok(report.into_vec())
 }
 

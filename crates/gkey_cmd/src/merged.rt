@@ -10,12 +10,13 @@ ghost use Rattle.gkey_cmd.specs.Told.{TellsMerged};
 ghost use Rattle.gkey_cmd.specs.ChaseEnds.{IsRightChaseStop, IsMergedOfFiles, MergeEnds};
 
 use crate::ending::{Ending, Refusal};
+use crate::prepared::prepare_files;
 use chase_core::Setup;
 use chase_laws::laws::{law_entities, law_rows};
 use gk_base::Stop;
-use graph_rows::{Rows, number};
+use graph_rows::Rows;
 use key_lang::KeyFile;
-use match_run::{chase_setup, prepare};
+use match_run::chase_setup;
 use merge_graph::merge;
 use pair_seed::SeedStop;
 use std::alloc::Global;
@@ -66,11 +67,10 @@ fn merged_text<Rt: Threads + Wait + Sync, G: Gate>(
 {
     law_rows();
     law_entities();
-    let numbered = number(rt, alloc, workers, rows, keys)?;
-    let prepared = prepare(rt, alloc, workers, numbered.graph, numbered.patterns, limit)?;
+    let (names, prepared) = prepare_files(rt, alloc, workers, rows, keys, limit)?;
     let setup = &prepared.setup;
     let _graph = setup.graph();
-    merged_over(rt, alloc, setup, &numbered.names, workers, gate)
+    merged_over(rt, alloc, setup, &names, workers, gate)
 }
 
 /// The text of a merge whose files are read, or the ending of a run that has none.

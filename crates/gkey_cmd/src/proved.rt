@@ -11,14 +11,15 @@ ghost use Rattle.gkey_cmd.specs.Told.{TellsJournal};
 ghost use Rattle.gkey_cmd.specs.ChaseEnds.{IsRightChaseStop, IsProofOfFiles, ProveEnds};
 
 use crate::ending::{Ending, Refusal};
+use crate::prepared::prepare_files;
 use chase_core::Setup;
 use chase_laws::laws::{law_chase, law_rows};
 use chase_laws::{Entry, all_valid};
 use gk_base::{NoMemory, Stop, Text};
-use graph_rows::{Rows, number};
+use graph_rows::Rows;
 use key_file::KeyDef;
 use key_lang::KeyFile;
-use match_run::{chase_setup, prepare};
+use match_run::chase_setup;
 use pair_seed::SeedStop;
 use proof_check::law_proof;
 use proof_graph::{build_proof, law_proof_read_back, put_proof};
@@ -107,13 +108,12 @@ fn proof_of<Rt: Threads + Wait + Sync, G: Gate>(
     law_rows();
     law_chase();
     law_proof();
-    let numbered = number(rt, alloc, workers, rows, keys)?;
-    let prepared = prepare(rt, alloc, workers, numbered.graph, numbered.patterns, limit)?;
+    let (names, prepared) = prepare_files(rt, alloc, workers, rows, keys, limit)?;
     proof_over(
         rt,
         alloc,
         &prepared.setup,
-        &numbered.names,
+        &names,
         keys.keys(),
         workers,
         gate,

@@ -21,7 +21,7 @@ use Rattle.graph_rows.specs.Rows.{StandFor, GoOn, LeaveRoom}
 use Rattle.graph_rows.specs.GraphFile.{StopsSoon, GraphStops, StopsAtGraph, GivesRows}
 use Rattle.graph_rows.specs.Feeding.{WereRead, AreAll, Feeds, FeedsNext, FeedsOn, StaysOpen, FeedsBatch, FeedsAll, ReadsBehind}
 use Rattle.graph_rows.specs.declared.rows.Rows.{Rows}
-use Rattle.graph_rows.proofs.NumberedRows.{names_few}
+use Rattle.graph_rows.proofs.RowsInNumbers.{names_few}
 use Rattle.graph_rows.proofs.Told.{told_more}
 
 -- ---- what is not yet refused

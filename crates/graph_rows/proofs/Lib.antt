@@ -1,5 +1,5 @@
 mod Told
-mod NumberedRows
+mod RowsInNumbers
 mod TwoGraphs
 mod FeedingLemmas
 mod PartLemmas

@@ -15,7 +15,7 @@ use Rattle.key_file.proofs.CallerLemmas.{rows_stay}
 use Rattle.graph_rows.specs.Rows.{StandFor}
 use Rattle.graph_rows.specs.Numbered.{AreAlikeFor, AreSameGraph}
 use Rattle.graph_rows.specs.declared.rows.Rows.{Rows}
-use Rattle.graph_rows.proofs.NumberedRows.{named_of}
+use Rattle.graph_rows.proofs.RowsInNumbers.{named_of}
 
 -- the first rows are those of the first triples, over more names too
 pub front_told : (r : Rows) (ts : List Triple) (more key : List Term) (n : ℕ) → StandFor r ts → more ≡ with_terms r.names key → take n r.rows.items ≡ map (row_of more) (take n ts)

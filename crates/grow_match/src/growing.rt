@@ -13,7 +13,7 @@ use chase_core::{Chase, Matched, Setup, Woken};
 use chase_laws::laws::law_rows;
 use chase_laws::{Entry, Pattern};
 use gk_base::NoMemory;
-use match_run::{Prepared, chase_on, chase_setup, prepare};
+use match_run::{Prepared, chase_on, chase_setup, prepare_graph};
 use pair_seed::SeedStop;
 use paired_search::View;
 use std::alloc::Global;
@@ -49,7 +49,7 @@ fn first_chase<R: Threads + Wait + Sync, G: Gate>(
     ensures patterns { IfOk result (λ r. r.1.items ≡ patterns.items) }
     ensures stop { IfErr result (IsRightStop graph patterns.items limit) }
 {
-    let Prepared { setup, .. } = prepare(rt, alloc, workers, graph, patterns, limit)?;
+    let Prepared { setup, .. } = prepare_graph(rt, alloc, workers, graph, patterns, limit)?;
     let Matched { journal, .. } = chase_setup(rt, alloc, &setup, workers, gate)?;
     Ok((journal, setup.into_patterns()))
 }
@@ -115,7 +115,7 @@ fn second_chase<R: Threads + Wait + Sync, G: Gate>(
     ensures no_more { OnOk result (¬ (HasMoreCandidates both patterns.items limit)) }
     ensures stop { IfErr result (IsRightStop both patterns.items limit) }
 {
-    let Prepared { setup, .. } = prepare(rt, alloc, workers, both, patterns, limit)?;
+    let Prepared { setup, .. } = prepare_graph(rt, alloc, workers, both, patterns, limit)?;
     Ok(chase_from(rt, alloc, &setup, old, workers, gate)?)
 }
 

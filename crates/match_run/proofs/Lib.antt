@@ -1,1 +1,3 @@
 mod Finished
+mod OfParts
+pub mod CallerLemmas

@@ -1,15 +1,19 @@
 //! Makes what a chase works on from a graph and keys.
 
-ghost use Rattle.std.specs.Prelude.{◌≡◌, ◌<◌, ◌^◌, ◌↔◌, ℕ, Contains, length, IfOk, IfErr, OnOk};
+ghost use Rattle.std.specs.Prelude.{◌≡◌, ◌<◌, ◌^◌, ◌↔◌, ℕ, All, Contains, length, IfOk, IfErr, OnOk};
+ghost use Rattle.std.specs.Option.{ForSome};
 ghost use Rattle.chase_laws.specs.Candidate.{IsCandidate, IsCandidateCount};
+ghost use Rattle.chase_laws.specs.Graph.{IsFolding};
 ghost use Rattle.chase_laws.specs.Pairing.{ArePairedBy};
 ghost use Rattle.near_lists.specs.Neighbourhoods.{AreNearNames};
 ghost use Rattle.pair_seed.specs.Pairs.{HasMoreCandidates};
 ghost use Rattle.pair_seed.specs.Stop.{IsRightStop};
 ghost use Rattle.match_run.specs.Kept.{AreKept};
+ghost use Rattle.match_run.specs.Parts.{graph_of_parts, HasPartsOf};
 
 use chase_core::Setup;
 use chase_laws::Pattern;
+use chase_laws::laws::law_rows;
 use near_lists::Near;
 use pair_filter::{KeptPairs, keep_with_keys};
 use pair_seed::{SeedStop, seed_in_threads};
@@ -95,7 +99,7 @@ fn candidates_and_near<R: Threads + Sync>(
 /// meanwhile. The answer is the same.
 ///
 /// `TooManyPairs` comes exactly where there are more candidate pairs than `limit`, and `NoMemory` where memory ran out.
-pub fn prepare<R: Threads + Sync>(
+pub fn prepare_graph<R: Threads + Sync>(
     rt: &R,
     alloc: Global,
     threads: u32,
@@ -116,4 +120,42 @@ pub fn prepare<R: Threads + Sync>(
     let Candidates { kept, seeded } = found;
     let setup = Setup::with_near(alloc, graph, patterns, kept.pairs, kept.keys, near)?;
     Ok(Prepared { setup, seeded })
+}
+
+/// Builds the graph of these rows, and prepares a chase of it under keys, as `prepare_graph` does one of a graph that is built.
+/// `rows` may come in any order and with repeats; `names` is how many names there are, `literal` has a flag for each, `rdf_type`
+/// is the number of `rdf:type` where that is a name, and `alike` says what each name is alike to. `threads` says how many threads
+/// may be used, as `prepare_graph` uses them. The answer is the same.
+///
+/// `TooManyPairs` comes exactly where there are more candidate pairs than `limit`, and `NoMemory` where memory ran out.
+pub fn prepare<R: Threads + Sync>(
+    rt: &R,
+    alloc: Global,
+    threads: u32,
+    rows: Vec<[u32; 3]>,
+    names: u32,
+    literal: Vec<bool>,
+    rdf_type: Option<u32>,
+    alike: Vec<u32>,
+    patterns: Vec<Pattern>,
+    limit: u64,
+) -> Result<Prepared, SeedStop>
+    requires named { All (λ row. All (λ n. n < names) row) rows.items }
+    requires flags { length literal.items ≡ names }
+    requires type_named { ForSome rdf_type (λ p. p < names) }
+    requires folding { IsFolding (graph_of_parts rows.items literal.items rdf_type alike.items) }
+    requires limit { limit < 2 ^ 32 }
+    requires few { length patterns.items < 2 ^ 32 }
+    ensures graph { IfOk result (λ p. HasPartsOf p.setup.task.graph (graph_of_parts rows.items literal.items rdf_type alike.items)) }
+    ensures patterns { IfOk result (λ p. p.setup.task.patterns ≡ patterns.items) }
+    ensures pairs { IfOk result (λ p. (a b : ℕ) → Contains p.setup.task.pairs (a, b) ↔
+        (IsCandidate p.setup.task.graph patterns.items a b × ArePairedBy p.setup.task.graph patterns.items 2 a b)) }
+    ensures seeded { IfOk result (λ p. IsCandidateCount p.setup.task.graph patterns.items p.seeded) }
+    ensures no_more { OnOk result (¬ (HasMoreCandidates (graph_of_parts rows.items literal.items rdf_type alike.items) patterns.items limit)) }
+    ensures stop { IfErr result (IsRightStop (graph_of_parts rows.items literal.items rdf_type alike.items) patterns.items limit) }
+{
+    // A fact for the proof: a graph's candidates don't depend on the order of its rows.
+    law_rows();
+    let graph = Graph::build_in_threads(rt, alloc, threads, rows, names, literal, rdf_type, alike)?;
+    prepare_graph(rt, alloc, threads, graph, patterns, limit)
 }

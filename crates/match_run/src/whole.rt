@@ -1,41 +1,29 @@
-//! Answers the classes of equal names, from a graph and keys.
+//! Answers the classes of equal names, from what is prepared.
 
-ghost use Rattle.std.specs.Prelude.{◌<◌, ◌≤◌, ◌^◌, length, IfOk, IfErr, OnOk};
-ghost use Rattle.pair_seed.specs.Pairs.{HasMoreCandidates};
-ghost use Rattle.pair_seed.specs.Stop.{IsRightStop};
+ghost use Rattle.std.specs.Prelude.{◌<◌, ◌≤◌, IfOk};
 ghost use Rattle.match_run.specs.Classes.{AreClasses};
 
-use crate::preparing::prepare;
 use crate::together::chase_setup;
-use chase_laws::Pattern;
-use pair_seed::SeedStop;
+use chase_core::Setup;
+use gk_base::NoMemory;
 use std::alloc::Global;
 use std::sync::Wait;
 use std::thread::Threads;
 use steal_pool::Gate;
-use typed_graph::Graph;
 
-/// One label for each name, equal exactly where the chase makes two names the same. At most so many workers chase, 1 to
-/// 64, each in a thread of its own, and each passes the gate before each search. No more threads filter the candidate pairs.
-///
-/// `TooManyPairs` comes exactly where there are more candidate pairs than `limit`, and `NoMemory` where memory ran out.
+/// One label for each name, equal exactly where the chase makes two names the same. All else that the chase took is given back,
+/// the setup too. At most so many workers chase, 1 to 64, each in a thread of its own, and each passes the gate before each search.
+/// Only want of memory stops it.
 pub fn classes<R: Threads + Wait + Sync, G: Gate>(
     rt: &R,
     alloc: Global,
-    graph: Graph,
-    patterns: Vec<Pattern>,
-    limit: u64,
+    setup: Setup,
     workers: u32,
     gate: &G,
-) -> Result<Vec<u32>, SeedStop>
-    requires limit { limit < 2 ^ 32 }
-    requires few { length patterns.items < 2 ^ 32 }
+) -> Result<Vec<u32>, NoMemory>
     requires workers { (0 < workers) × (workers ≤ 64) }
-    ensures classes { IfOk result (λ labels. AreClasses graph patterns.items labels.items) }
-    ensures no_more { OnOk result (¬ (HasMoreCandidates graph patterns.items limit)) }
-    ensures stop { IfErr result (IsRightStop graph patterns.items limit) }
+    ensures classes { IfOk result (λ labels. AreClasses setup.task.graph setup.task.patterns labels.items) }
 {
-    let prepared = prepare(rt, alloc, workers, graph, patterns, limit)?;
-    let matched = chase_setup(rt, alloc, &prepared.setup, workers, gate)?;
+    let matched = chase_setup(rt, alloc, &setup, workers, gate)?;
     Ok(matched.labels)
 }

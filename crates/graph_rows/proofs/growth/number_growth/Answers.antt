@@ -4,7 +4,7 @@ use Rattle.std.proofs.lemmas.List.Elements.{All-take}
 use Rattle.term_table.proofs.CallerLemmas.{length-with_terms}
 use Rattle.key_file.specs.Compile.{key_terms}
 use Rattle.key_file.proofs.CallerLemmas.{rows_within, type_within}
-use Rattle.graph_rows.proofs.NumberedRows.{named_of, names_few, names_numbered, numbered}
+use Rattle.graph_rows.proofs.RowsInNumbers.{named_of, names_few, names_numbered, numbered}
 use Rattle.graph_rows.proofs.TwoGraphs.{front_told, told_graph, has_front}
 use Rattle.graph_rows.proofs.growth.number_growth.Goals as goal
 

@@ -1,6 +1,6 @@
 -- Row by row.
 use Rattle.std.proofs.Common.{◌++◌, ◌∙◌, sym, ap, append-nil}
-use Rattle.graph_rows.proofs.NumberedRows.{in_threes-none}
+use Rattle.graph_rows.proofs.RowsInNumbers.{in_threes-none}
 use Rattle.graph_rows.proofs.rows.push_rows.Goals as goal
 
 pub returns : goal.returns

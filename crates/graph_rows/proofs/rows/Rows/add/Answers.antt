@@ -4,7 +4,7 @@ use Rattle.term_table.specs.Numbering.{with_terms, place_of}
 use Rattle.term_list.proofs.CallerLemmas.{length-terms_of}
 use Rattle.graph_rows.specs.Threes.{in_threes}
 use Rattle.graph_rows.specs.declared.rows.Rows.{Rows}
-use Rattle.graph_rows.proofs.NumberedRows.{in_threes-terms, stand_more}
+use Rattle.graph_rows.proofs.RowsInNumbers.{in_threes-terms, stand_more}
 use Rattle.graph_rows.proofs.rows.Rows.add.Goals as goal
 
 pub intern_all_in_threads-requires-after_bounds : goal.intern_all_in_threads-requires-after_bounds

@@ -95,6 +95,24 @@ numbered r ts more K own G key s e built literal type alike folds =
       back = record { rows = λ row h. (built row).1 (subst (λ rs. Contains rs row) (sym stay) h); literal = sym literal; rdf_type = sym type; alike = alike_back more K G.alike (folds_of more) here refl };
     }
 
+-- a graph with the same rows as another, in whatever order and however often, is the same as that one is
+pub as_built : (K : List Shape) (G F T : NumberedGraph) → ((row : List ℕ) → Contains G.rows row ↔ Contains F.rows row) → G.literal ≡ F.literal → G.rdf_type ≡ F.rdf_type → G.alike ≡ F.alike →
+    AreSameGraph K F T → AreSameGraph K G T
+as_built K G F T rows literal type alike same = record {
+  there = record {
+    rows = λ row h. same.there.rows row ((rows row).0 h);
+    literal = literal ∙ same.there.literal;
+    rdf_type = type ∙ same.there.rdf_type;
+    alike = subst (λ (numbers : List ℕ). (numbers ≡ T.alike) ⊎ AreUnfolded K) (sym alike) same.there.alike;
+  };
+  back = record {
+    rows = λ row h. (rows row).1 (same.back.rows row h);
+    literal = same.back.literal ∙ sym literal;
+    rdf_type = same.back.rdf_type ∙ sym type;
+    alike = subst (λ (numbers : List ℕ). (T.alike ≡ numbers) ⊎ AreUnfolded K) (sym alike) same.back.alike;
+  };
+}
+
 -- a key file has few patterns
 pub few_patterns : (names : List Term) (keys : List KeyShape) (K : List Shape) → K ≡ patterns_of names keys → length keys ≤ 64 → length K < 2 ^ 32
 few_patterns names keys K e few = let a : length K ≡ length keys = ap length e ∙ length-map keys (shape_of names) in omega arith
