@@ -2,3 +2,4 @@ mod Idle
 mod Steps
 mod Selections
 mod Linked
+mod Asked

@@ -18,17 +18,17 @@ same_place k j e = cc
 
 module _ (G : NumberedGraph) (Q : Shape) where
   -- each number goes together with itself
-  itself : (slot : Slot) (u : ℕ) → GoTogether G slot u u
+  pub itself : (slot : Slot) (u : ℕ) → GoTogether G slot u u
   itself (Entity t) u = tt
   itself (Any t) u = tt
   itself Value u = refl
   itself Folded u = refl
   itself (Fixed c) u = refl
 
-  left_here : (s u w : ℕ) → PairedHere G Q s u w → PairedHere G Q s u u
+  pub left_here : (s u w : ℕ) → PairedHere G Q s u w → PairedHere G Q s u u
   left_here s u w h slot at = let x = h slot at in (x.0, x.0, itself slot u)
 
-  right_here : (s u w : ℕ) → PairedHere G Q s u w → PairedHere G Q s w w
+  pub right_here : (s u w : ℕ) → PairedHere G Q s u w → PairedHere G Q s w w
   right_here s u w h slot at = let x = h slot at in (x.1, x.1, itself slot w)
 
   -- what is paired with any number is paired with itself

@@ -8,6 +8,7 @@ use Rattle.chase_laws.specs.Pairing.{GoTogether, ArePaired}
 use Rattle.pair_filter.specs.declared.peers.Peers.{Peers}
 use Rattle.pair_filter.specs.declared.peers.Known.TheVariants.{PairedWithNone, Link}
 use Rattle.pair_filter.specs.declared.memo.Memo.{Memo}
+use Rattle.pair_filter.specs.Asking.{AreAskedOfAll}
 
 -- whatever stands at slot s goes together with whatever else may stand there
 abbrev pub IsFree : Shape → ℕ → Type 0
@@ -54,6 +55,7 @@ pub record AreKnown (G : NumberedGraph) (Q : Shape) (p : Peers) : Type 0 where
 abbrev pub Tells : NumberedGraph → Shape → ℕ → ℕ → Bool → Type 0
 Tells G Q a b told = (IsTrue told → ArePaired G Q 2 0 a b) × (IsFalse told → ¬ (ArePaired G Q 2 0 a b))
 
--- what is known under each key is true
-abbrev pub IsMemo : NumberedGraph → List Shape → Memo → Type 0
-IsMemo G K memo = (key : ℕ) (Q : Shape) (p : Peers) → slice_get K key ≡ Some Q → slice_get memo.keys.items key ≡ Some p → AreKnown G Q p
+-- what is known under each key is true, and of each of its edges what it asks
+pub record IsMemo (G : NumberedGraph) (K : List Shape) (memo : Memo) : Type 0 where
+  pub known : (key : ℕ) (Q : Shape) (p : Peers) → slice_get K key ≡ Some Q → slice_get memo.keys.items key ≡ Some p → AreKnown G Q p
+  pub asked : AreAskedOfAll K memo.asks.items

@@ -2,9 +2,10 @@
 //! at by itself, with no partner.
 
 ghost use Rattle.std.specs.Prelude.{◌≡◌, ◌<◌, ◌↔◌, Contains, IsTrue, Some, length, slice_get};
+ghost use Rattle.chase_laws.specs.declared.pattern.Edge.{Edge};
 ghost use Rattle.chase_laws.specs.Pairing.{PairedHere};
 ghost use Rattle.std.specs.List.Sorted.{IsStrictlyIncreasing};
-ghost use Rattle.pair_filter.specs.Along.{ArePairedExcept, ArePairedForth, ArePairedBack, HasAlone, HaveCommon};
+ghost use Rattle.pair_filter.specs.Along.{ArePairedExcept, ArePairedAlong, ArePairedForth, ArePairedBack, HasAlone, HaveCommon};
 
 use crate::here::is_here;
 use crate::parts::{edge_at, edge_count, is_skipped, skipped_from};
@@ -92,6 +93,26 @@ fn is_alone_back(
     let skipped = skipped_from(depth, place, edge);
     let names = graph.incoming(n, edge.pred);
     has_alone(graph, pattern, skipped, depth, edge.from, names)
+}
+
+/// Whether a name is paired with itself to a depth along the edge at a place, for each of its ends that is at slot `s`.
+pub(crate) fn is_alone_over(
+    graph: &Graph,
+    pattern: &Pattern,
+    depth: u8,
+    place: usize,
+    s: u8,
+    n: u32,
+) -> bool
+    requires place { place < length pattern.now.edges }
+    requires here { PairedHere graph.now pattern.now s n n }
+    ensures { IsTrue result ↔ ((e : Edge) → slice_get pattern.now.edges place ≡ Some e → ArePairedAlong graph.now pattern.now depth e s n n) }
+{
+    let edge = edge_at(pattern, place);
+    if !is_alone_forth(graph, pattern, depth, place, edge, s, n) {
+        return false;
+    }
+    is_alone_back(graph, pattern, depth, place, edge, s, n)
 }
 
 /// Whether some name of a list is paired with itself.

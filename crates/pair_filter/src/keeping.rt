@@ -51,7 +51,7 @@ fn keep_alone(
     let mut kept = Vec::with_capacity(alloc, pairs.len())?;
     let mut keys = Vec::with_capacity(alloc, pairs.len())?;
     let mut reach = all_keys(patterns, 0);
-    let mut memo = Memo::new(alloc, graph.names(), patterns.len(), room)?;
+    let mut memo = Memo::new(alloc, graph.names(), patterns, room)?;
     for place in 0..pairs.len() {
         let pair = pairs[place];
         if !is_for(&reach, pair) {

@@ -6,14 +6,16 @@ ghost use Rattle.chase_laws.specs.Shape.{Shape};
 ghost use Rattle.chase_laws.specs.Pairing.{PairedHere, ArePairedBy};
 ghost use Rattle.chase_laws.specs.Valuation.{FitsSlot};
 ghost use Rattle.paired_search.specs.KeyRange.{IsIdle, IsWithin};
+ghost use Rattle.pair_filter.specs.Asking.{AreAsked, IsRefused};
 ghost use Rattle.pair_filter.specs.Keys.{ArePairedUnder, ArePairedAt, AreKeysOf};
 ghost use Rattle.pair_filter.specs.Known.{IsMemo};
 ghost use Rattle.pair_filter.specs.Reaching.{IsReach};
 ghost use Rattle.pair_filter.specs.Telling.{IsRuledOut};
 
+use crate::asks::Asks;
 use crate::memo::Memo;
-use crate::paired::unpaired_edge;
 use crate::reach::Reach;
+use crate::refusal::{Refused, refusal_of};
 use chase_laws::{Pattern, Slot};
 use paired_search::KeyRange;
 use typed_graph::Graph;
@@ -28,51 +30,107 @@ fn have_type(graph: &Graph, t: u32, a: u32, b: u32) -> bool
     graph.fits_slot(Slot::Entity(t), a) && graph.fits_slot(Slot::Entity(t), b)
 }
 
-/// Whether a key pairs two names to depth 2 which can go together at its first slot. Its edge at the place `first` is asked
-/// first; where one rules out the two, that is the first from then on.
-fn is_kept_by(graph: &Graph, pattern: &Pattern, first: &mut usize, a: u32, b: u32) -> bool
-    requires { PairedHere graph.now pattern.now 0 a b }
-    ensures { IsTrue result ↔ ArePairedUnder graph.now pattern.now a b }
+/// Whom a key refuses of two names which can go together at its first slot; none where it pairs them to depth 2. Its edge at the
+/// place `first` is asked first; where one refuses the two, that is the first from then on.
+fn refused_here(
+    graph: &Graph,
+    pattern: &Pattern,
+    asks: &[Asks],
+    first: &mut usize,
+    a: u32,
+    b: u32,
+) -> Option<Refused>
+    requires asks { AreAsked pattern.now asks.now }
+    requires here { PairedHere graph.now pattern.now 0 a b }
+    ensures some { IfSome result (IsRefused graph.now pattern.now a b) }
+    ensures none { IfNone result (ArePairedUnder graph.now pattern.now a b) }
 {
     // A fact for the proof: slot 0 is an entity variable.
     let _ = pattern.designated_type();
-    match unpaired_edge(graph, pattern, *first, DEPTH, 0, a, b) {
-        Some(place) => {
-            *first = place;
-            false
+    match refusal_of(graph, pattern, asks, *first, a, b) {
+        Some(refusal) => {
+            *first = refusal.place;
+            Some(refusal.refused)
         }
-        None => true,
+        None => None,
     }
 }
 
-/// Whether a key pairs two names to depth 2. Where it does not, no two valuations of it at them coincide. `missing` is a
-/// type that one of the two is known to lack: of keys behind one another that designate one type, it is tested once. `first`
-/// is the place of the edge that is asked first.
-fn are_paired_by(
+/// Whom a key refuses of two names; none where it pairs them to depth 2. Where it does not, no two valuations of it at them
+/// coincide. `missing` is a type that one of the two is known to lack: of keys behind one another that designate one type, it is
+/// tested once. `first` is the place of the edge that is asked first.
+fn refused_by(
     graph: &Graph,
     pattern: &Pattern,
+    asks: &[Asks],
     first: &mut usize,
     pair: (u32, u32),
     missing: &mut Option<u32>,
-) -> bool
+) -> Option<Refused>
+    requires asks { AreAsked pattern.now asks.now }
     requires missing { (t : ℕ) → missing.old ≡ Some t → ¬ (FitsSlot graph.now (Entity t) pair.0 × FitsSlot graph.now (Entity t) pair.1) }
-    ensures paired { IsTrue result → ArePairedUnder graph.now pattern.now pair.0 pair.1 }
-    ensures ruled_out { IsFalse result → IsRuledOut graph.now pattern.now pair.0 pair.1 }
+    ensures some { IfSome result (IsRefused graph.now pattern.now pair.0 pair.1) }
+    ensures none { IfNone result (ArePairedUnder graph.now pattern.now pair.0 pair.1) }
     ensures missing { (t : ℕ) → missing.new ≡ Some t → ¬ (FitsSlot graph.now (Entity t) pair.0 × FitsSlot graph.now (Entity t) pair.1) }
 {
     let designated = pattern.designated_type();
     if *missing == Some(designated) {
-        return false;
+        return Some(Refused::Both);
     }
     if !have_type(graph, designated, pair.0, pair.1) {
         *missing = Some(designated);
-        return false;
+        return Some(Refused::Both);
     }
-    is_kept_by(graph, pattern, first, pair.0, pair.1)
+    refused_here(graph, pattern, asks, first, pair.0, pair.1)
+}
+
+/// Keeps whom a key refuses of two names. What takes asking more is kept where the first is first in many pairs.
+fn keep_refused(
+    graph: &Graph,
+    patterns: &[Pattern],
+    reach: &Reach,
+    key: usize,
+    pair: (u32, u32),
+    refused: Refused,
+    memo: &mut Memo,
+)
+    requires key { key < length patterns.now }
+    requires memo { IsMemo graph.now patterns.now memo.old }
+    requires refused { (Q : Shape) → slice_get patterns.now key ≡ Some Q → IsRefused graph.now Q pair.0 pair.1 refused }
+    ensures memo { IsMemo graph.now patterns.now memo.new }
+{
+    match refused {
+        Refused::First => memo.put_none(key, pair.0),
+        Refused::Second => memo.put_none(key, pair.1),
+        Refused::Both => {
+            if reach.is_asked {
+                memo.learn(graph, patterns, key, pair, false);
+            }
+        }
+    }
+}
+
+/// Keeps that a key pairs two names, where the first is first in many pairs.
+fn keep_paired(
+    graph: &Graph,
+    patterns: &[Pattern],
+    reach: &Reach,
+    key: usize,
+    pair: (u32, u32),
+    memo: &mut Memo,
+)
+    requires key { key < length patterns.now }
+    requires memo { IsMemo graph.now patterns.now memo.old }
+    requires paired { (Q : Shape) → slice_get patterns.now key ≡ Some Q → ArePairedUnder graph.now Q pair.0 pair.1 }
+    ensures memo { IsMemo graph.now patterns.now memo.new }
+{
+    if reach.is_kept {
+        memo.learn(graph, patterns, key, pair, true);
+    }
 }
 
 /// Whether the key at a place pairs two names to depth 2. What is known from pairs before is not asked again, and what these two
-/// tell is kept where the first is first in many pairs.
+/// tell is kept.
 fn are_paired_at(
     graph: &Graph,
     patterns: &[Pattern],
@@ -91,23 +149,24 @@ fn are_paired_at(
     ensures memo { IsMemo graph.now patterns.now memo.new }
 {
     let pattern = &patterns[key];
+    // A fact for the proof: slot 0 is an entity variable.
+    let _ = pattern.designated_type();
     if let Some(known) = memo.answer(key, pair) {
-        // A fact for the proof: slot 0 is an entity variable.
-        let _ = pattern.designated_type();
         return known;
     }
     let mut first = memo.first_edge(key);
-    let paired = are_paired_by(graph, pattern, &mut first, pair, missing);
+    let refused = refused_by(graph, pattern, memo.asks(key), &mut first, pair, missing);
     memo.put_first_edge(key, first);
-    let is_told = if paired {
-        reach.is_kept
-    } else {
-        reach.is_asked
-    };
-    if is_told {
-        memo.learn(graph, patterns, key, pair, paired);
+    match refused {
+        Some(refused) => {
+            keep_refused(graph, patterns, reach, key, pair, refused, memo);
+            false
+        }
+        None => {
+            keep_paired(graph, patterns, reach, key, pair, memo);
+            true
+        }
     }
-    paired
 }
 
 /// The place of the first key that pairs two names. Only keys that the first name is in reach of are asked.

@@ -13,13 +13,16 @@
 //! - `links`: names through which a key pairs all that it pairs with them
 //! - `reach`: which keys may pair a name with any other
 //! - `sharing`: whether a name shares a value with one behind it
-//! - `paired`: whether a key pairs two names
+//! - `asks`: what each edge of a key asks of two names at its first slot
+//! - `refusal`: whether a key's edges pair two names there, and whom they refuse
+//! - `paired`: whether an edge pairs two names
 //! - `alone`: whether a key pairs a name with itself, which it does wherever it pairs it with any
 //! - `here`: whether two names can go together at a slot
 //! - `parts`: the parts of a pattern
 #![tactic(auto)]
 
 mod alone;
+mod asks;
 mod cut;
 mod here;
 mod keeping;
@@ -30,6 +33,7 @@ mod paired;
 mod parts;
 mod peers;
 mod reach;
+mod refusal;
 mod sharing;
 
 pub use keeping::{KeptPairs, keep, keep_with_keys};

@@ -46,7 +46,7 @@ fn pairs_all_along(pattern: &Pattern, depth: u8, s: u8) -> bool
 
 /// Whether it is so along an edge, if that begins at the slot.
 #[cycle(pairs_all)]
-fn pairs_all_forth(pattern: &Pattern, depth: u8, edge: Edge, s: u8) -> bool
+pub(crate) fn pairs_all_forth(pattern: &Pattern, depth: u8, edge: Edge, s: u8) -> bool
     requires { edge.to < length pattern.now.slots }
     ensures { IsTrue result → (G : NumberedGraph) → PairsAllForth G pattern.now depth edge s }
 {
@@ -55,7 +55,7 @@ fn pairs_all_forth(pattern: &Pattern, depth: u8, edge: Edge, s: u8) -> bool
 
 /// Whether it is so along an edge, if that ends at the slot.
 #[cycle(pairs_all)]
-fn pairs_all_back(pattern: &Pattern, depth: u8, edge: Edge, s: u8) -> bool
+pub(crate) fn pairs_all_back(pattern: &Pattern, depth: u8, edge: Edge, s: u8) -> bool
     requires { edge.from < length pattern.now.slots }
     ensures { IsTrue result → (G : NumberedGraph) → PairsAllBack G pattern.now depth edge s }
 {

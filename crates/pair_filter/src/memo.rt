@@ -3,9 +3,11 @@
 ghost use Rattle.std.specs.Prelude.{◌≡◌, ◌<◌, List, IfOk, IfSome, IsTrue, Some, length, slice_get};
 ghost use Rattle.chase_laws.specs.Graph.{NumberedGraph};
 ghost use Rattle.chase_laws.specs.Shape.{Shape};
-ghost use Rattle.pair_filter.specs.Keys.{ArePairedAt};
+ghost use Rattle.chase_laws.specs.Pairing.{ArePaired};
+ghost use Rattle.pair_filter.specs.Asking.{AreAsked};
 ghost use Rattle.pair_filter.specs.Known.{IsMemo, Tells};
 
+use crate::asks::{Asks, asks_of_keys};
 use crate::peers::Peers;
 use chase_laws::Pattern;
 use gk_base::NoMemory;
@@ -24,19 +26,27 @@ pub(crate) struct Memo {
     names: u32,
     /// Of how many names more something may be known.
     room: usize,
+    /// Of each key what each of its edges asks.
+    asks: Vec<Vec<Asks>>,
     keys: Vec<Peers>,
     /// How many pairs each key has paired while nothing was kept.
     told: Vec<usize>,
-    /// Of each key the place of the edge that has ruled out two names last, or 0.
+    /// Of each key the place of the edge that has refused two names last, or 0.
     first_edges: Vec<usize>,
 }
 
 impl Memo {
-    /// Nothing is known under any of so many keys. Of so many names as there is room for something may be known, each counted once
-    /// a key. A name takes 5 bytes.
-    pub(crate) fn new(alloc: Global, names: u32, keys: usize, room: usize) -> Result<Memo, NoMemory>
-        ensures { IfOk result (λ memo. (G : NumberedGraph) (K : List Shape) → IsMemo G K memo) }
+    /// Of each key's edges what they ask; of names nothing is known. Of so many names as there is room for something may be known,
+    /// each counted once a key. A name takes 5 bytes.
+    pub(crate) fn new(
+        alloc: Global,
+        names: u32,
+        patterns: &[Pattern],
+        room: usize,
+    ) -> Result<Memo, NoMemory>
+        ensures { IfOk result (λ memo. (G : NumberedGraph) → IsMemo G patterns.now memo) }
     {
+        let keys = patterns.len();
         let mut none = Vec::with_capacity(alloc, keys)?;
         for _ in 0..keys {
             none.push(Peers::of_none(alloc))?;
@@ -45,6 +55,7 @@ impl Memo {
             alloc,
             names,
             room,
+            asks: asks_of_keys(alloc, patterns)?,
             keys: none,
             told: vec![in alloc; 0; keys]?,
             first_edges: vec![in alloc; 0; keys]?,
@@ -58,10 +69,21 @@ impl Memo {
 
     /// Has the edge at a place asked first from now on.
     pub(crate) fn put_first_edge(&mut self, key: usize, place: usize)
-        ensures { self.new.keys ≡ self.old.keys }
+        ensures keys { self.new.keys ≡ self.old.keys }
+        ensures asks { self.new.asks ≡ self.old.asks }
     {
         if key < self.first_edges.len() {
             self.first_edges[key] = place;
+        }
+    }
+
+    /// What each edge of a key asks.
+    pub(crate) fn asks(&self, key: usize) -> &[Asks]
+        ensures { (G : NumberedGraph) (K : List Shape) (Q : Shape) → IsMemo G K self.now → slice_get K key ≡ Some Q → AreAsked Q result.now }
+    {
+        match self.asks.get(key) {
+            Some(asks) => asks,
+            None => &[],
         }
     }
 
@@ -94,7 +116,7 @@ impl Memo {
     )
         requires key { key < length patterns.now }
         requires memo { IsMemo graph.now patterns.now self.old }
-        requires paired { IsTrue paired → ArePairedAt graph.now patterns.now key pair.0 pair.1 }
+        requires paired { (Q : Shape) → slice_get patterns.now key ≡ Some Q → IsTrue paired → ArePaired graph.now Q 2 0 pair.0 pair.1 }
         ensures memo { IsMemo graph.now patterns.now self.new }
     {
         if key >= self.keys.len() {
@@ -104,9 +126,19 @@ impl Memo {
         self.keys[key].learn(graph, &patterns[key], pair, paired);
     }
 
+    /// Keeps that a key pairs a name with none.
+    pub(crate) fn put_none(&mut self, key: usize, name: u32)
+        ensures { (G : NumberedGraph) (K : List Shape) → IsMemo G K self.old → ((Q : Shape) → slice_get K key ≡ Some Q → ¬ (ArePaired G Q 2 0 name name)) → IsMemo G K self.new }
+    {
+        if key < self.keys.len() {
+            self.keys[key].put_none(name);
+        }
+    }
+
     /// Counts a pair that a key pairs, and says whether there were enough for it to pay that something is kept.
     fn is_often_told(&mut self, key: usize) -> bool
         ensures keys { self.new.keys ≡ self.old.keys }
+        ensures asks { self.new.asks ≡ self.old.asks }
         ensures names { self.new.names ≡ self.old.names }
         ensures room { self.new.room ≡ self.old.room }
     {

@@ -1,6 +1,6 @@
 //! Whether a key pairs two names: edge by edge, down to a depth.
 
-ghost use Rattle.std.specs.Prelude.{◌≡◌, ◌<◌, ◌-◌, ◌↔◌, IsTrue, None, Some, IfNone, IfSome, length, slice_get};
+ghost use Rattle.std.specs.Prelude.{◌≡◌, ◌<◌, ◌↔◌, IsTrue, Some, IfSome, length, slice_get};
 ghost use Rattle.chase_laws.specs.declared.pattern.Edge.{Edge};
 ghost use Rattle.std.specs.List.Sorted.{IsStrictlyIncreasing};
 ghost use Rattle.chase_laws.specs.declared.pattern.Slot.TheVariants.{Value};
@@ -70,7 +70,7 @@ fn are_paired_along(
 
 /// Whether two names are paired to a depth along the edge at a place, for each of its ends that is at slot `s`.
 #[cycle(paired)]
-fn are_paired_over(
+pub(crate) fn are_paired_over(
     graph: &Graph,
     pattern: &Pattern,
     depth: u8,
@@ -88,38 +88,6 @@ fn are_paired_over(
         return false;
     }
     are_paired_back(graph, pattern, depth, place, edge, s, u, w)
-}
-
-/// The place of an edge along which two names are not paired, which can go together at slot `s`; none where they are paired
-/// there to a depth. The edge at the place `first` is asked before the others. Any could be: an edge that has ruled out two
-/// names is likely to rule out the next two.
-pub(crate) fn unpaired_edge(
-    graph: &Graph,
-    pattern: &Pattern,
-    first: usize,
-    depth: u8,
-    s: u8,
-    u: u32,
-    w: u32,
-) -> Option<usize>
-    requires depth { 0 < depth }
-    requires here { PairedHere graph.now pattern.now s u w }
-    ensures some { IfSome result (λ place. (place < length pattern.now.edges) × ¬ ((e : Edge) → slice_get pattern.now.edges place ≡ Some e → ArePairedAlong graph.now pattern.now (depth - 1) e s u w)) }
-    ensures none { IfNone result (ArePairedExcept graph.now pattern.now None depth s u w) }
-{
-    let count = edge_count(pattern);
-    if first < count && !are_paired_over(graph, pattern, depth - 1, first, s, u, w) {
-        return Some(first);
-    }
-    for place in 0..count {
-        if place == first {
-            continue;
-        }
-        if !are_paired_over(graph, pattern, depth - 1, place, s, u, w) {
-            return Some(place);
-        }
-    }
-    None
 }
 
 /// Whether they are along an edge, if that begins at the slot.

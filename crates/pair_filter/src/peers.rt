@@ -73,9 +73,22 @@ impl Peers {
         if self.are_linked(pair.0, pair.1) {
             return Some(true);
         }
-        match self.known_of(pair.1) {
-            Known::PairedWithNone => Some(false),
-            _ => None,
+        if self.is_none(pair.1) {
+            return Some(false);
+        }
+        if self.is_none(pair.0) {
+            return Some(false);
+        }
+        None
+    }
+
+    /// Whether a name is known to be paired with none.
+    fn is_none(&self, n: u32) -> bool
+        ensures { IsTrue result → (G : NumberedGraph) (Q : Shape) → AreKnown G Q self.now → ¬ (ArePaired G Q 2 0 n n) }
+    {
+        match self.known_of(n) {
+            Known::PairedWithNone => true,
+            Known::Unasked | Known::PairedWithItself | Known::NoLink | Known::Link => false,
         }
     }
 
@@ -132,6 +145,13 @@ impl Peers {
         if self.links_others(graph, pattern, pair.0) {
             self.put_link(pair.1, pair.0);
         }
+    }
+
+    /// Keeps that the key pairs a name with none.
+    pub(crate) fn put_none(&mut self, n: u32)
+        ensures { (G : NumberedGraph) (Q : Shape) → AreKnown G Q self.old → ¬ (ArePaired G Q 2 0 n n) → AreKnown G Q self.new }
+    {
+        self.put_known(n, Known::PairedWithNone);
     }
 
     /// Asks, where it was not, whether a name is paired with itself.

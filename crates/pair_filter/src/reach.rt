@@ -1,8 +1,10 @@
 //! Which keys may pair a name with others. It is asked of the name alone, and so once for a run of pairs in which it is first.
 
 ghost use Rattle.std.specs.Prelude.{◌≡◌, ◌<◌, ◌≤◌, ℕ, IsTrue, IsFalse, IfSome, IfNone, Some, length, slice_get};
+ghost use Rattle.chase_laws.specs.declared.pattern.Slot.TheVariants.{Entity};
 ghost use Rattle.chase_laws.specs.Graph.{NumberedGraph};
 ghost use Rattle.chase_laws.specs.Shape.{Shape};
+ghost use Rattle.chase_laws.specs.Valuation.{FitsSlot};
 ghost use Rattle.pair_filter.specs.Reaching.{IsReach, PairsWithNone};
 
 use crate::alone::is_alone;
@@ -50,7 +52,8 @@ pub(crate) fn all_keys(patterns: &[Pattern], name: u32) -> Reach
 
 /// Whether a key may pair a name with another from `least` on: it designates a type of it, its edge at the place `edge` may lead
 /// to a value of both and, if that is asked, it pairs the name with itself to depth 2. Where it does not, it pairs it with no such
-/// name. The edge is to be the one that has ruled out two names last: it is likely to rule out all that the name is paired with.
+/// name. The edge is to be the one that has refused two names last: it is likely to refuse all that the name is paired with.
+/// `missing` is a type that the name is known to lack: of keys behind one another that designate one type, it is tested once.
 fn may_pair(
     graph: &Graph,
     pattern: &Pattern,
@@ -58,11 +61,18 @@ fn may_pair(
     name: u32,
     least: u32,
     is_asked: bool,
+    missing: &mut Option<u32>,
 ) -> bool
-    ensures { IsFalse result → PairsWithNone graph.now pattern.now name least }
+    requires missing { (t : ℕ) → missing.old ≡ Some t → ¬ (FitsSlot graph.now (Entity t) name) }
+    ensures none { IsFalse result → PairsWithNone graph.now pattern.now name least }
+    ensures missing { (t : ℕ) → missing.new ≡ Some t → ¬ (FitsSlot graph.now (Entity t) name) }
 {
     let designated = pattern.designated_type();
+    if *missing == Some(designated) {
+        return false;
+    }
     if !graph.fits_slot(Slot::Entity(designated), name) {
+        *missing = Some(designated);
         return false;
     }
     if !may_share(graph, pattern, edge, name, least) {
@@ -98,10 +108,12 @@ fn first_place(
     ensures before { IfSome result (λ first. (key : ℕ) (Q : Shape) → key < first → slice_get patterns.now key ≡ Some Q → PairsWithNone graph.now Q name least) }
     ensures none { IfNone result ((key : ℕ) (Q : Shape) → slice_get patterns.now key ≡ Some Q → PairsWithNone graph.now Q name least) }
 {
+    let mut missing = None;
     for key in 0..patterns.len() {
         let is_asked = is_to_ask(are_many, memo, key, name);
         let edge = memo.first_edge(key);
-        if may_pair(graph, &patterns[key], edge, name, least, is_asked) {
+        let pattern = &patterns[key];
+        if may_pair(graph, pattern, edge, name, least, is_asked, &mut missing) {
             return Some(key);
         }
     }
@@ -122,11 +134,13 @@ fn end_place(
     ensures within { result ≤ length patterns.now }
     ensures behind { (key : ℕ) (Q : Shape) → result ≤ key → slice_get patterns.now key ≡ Some Q → PairsWithNone graph.now Q name least }
 {
+    let mut missing = None;
     let behind = first + 1;
     for key in (behind..patterns.len()).rev() {
         let is_asked = is_to_ask(are_many, memo, key, name);
         let edge = memo.first_edge(key);
-        if may_pair(graph, &patterns[key], edge, name, least, is_asked) {
+        let pattern = &patterns[key];
+        if may_pair(graph, pattern, edge, name, least, is_asked, &mut missing) {
             return key + 1;
         }
     }

@@ -14,7 +14,7 @@ loop-place-init c = record {
   kept = c.in_ok-kept.ensures.items;
   keys = rw (c.in_ok-kept.ensures.items, c.in_ok-keys.ensures.items) tt;
   reach = c.all_keys-reach.ensures.reach c.args.graph.now;
-  memo = c.in_ok-memo.ensures c.args.graph.now c.args.patterns.now;
+  memo = c.in_ok-memo.ensures c.args.graph.now;
 }
 
 -- a pair that is not kept
