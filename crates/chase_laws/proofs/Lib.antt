@@ -10,7 +10,9 @@ mod Lists
 mod NearLaws
 mod PairLaws
 mod Patterns
+mod SameLaws
 mod SameRows
+mod SignatureLaws
 mod SmallCases
 mod Turned
 mod Walks

@@ -1,10 +1,11 @@
 -- Small cases of the definitions, worked out.
 use Rattle.std.proofs.Common.{[], ◌∷◌, ℕ, Bool, true, false, None, IsTrue, ◌≡◌, ◌==◌, refl, arith}
-use Rattle.chase_laws.specs.declared.pattern.Slot.TheVariants.{Entity, Any as AnyOf, Value}
+use Rattle.chase_laws.specs.declared.pattern.Slot.TheVariants.{Entity, Any as AnyOf, Value, Folded}
 use Rattle.chase_laws.specs.Graph.{NumberedGraph, HasType}
 use Rattle.chase_laws.specs.Shape.{Shape, is_pattern}
 use Rattle.chase_laws.specs.Valuation.{FitsSlot, IsValuation, AgreeAt}
 use Rattle.chase_laws.specs.Joined.{joined}
+use Rattle.chase_laws.specs.Signature.{signature}
 use Rattle.chase_laws.specs.Report.{report_text}
 
 -- where nothing is identified, each name is joined with itself and with no other
@@ -65,3 +66,12 @@ two_classes = refl
 pub no_classes : report_text ((98 ∷ []) ∷ (97 ∷ []) ∷ []) (joined []) ≡ []
 unfolding joined
 no_classes = refl
+
+-- the signature of a valuation of x, another entity, a literal, a folded literal and a wildcard, where names 1 and 2 have
+-- one label and literals 3 and 4 are alike: the literals and the labels count, and neither x nor the wildcard does
+pub one_signature :
+    let Q : Shape = record { slots = Entity 9 ∷ Entity 9 ∷ Value ∷ Folded ∷ AnyOf 9 ∷ []; edges = [] } in
+    let G : NumberedGraph = record { rows = []; literal = []; rdf_type = None; alike = 0 ∷ 1 ∷ 2 ∷ 3 ∷ 3 ∷ 5 ∷ 6 ∷ 7 ∷ [] } in
+    (signature G Q (0 ∷ 1 ∷ 1 ∷ 3 ∷ 4 ∷ 5 ∷ 6 ∷ 7 ∷ []) (0 ∷ 2 ∷ 5 ∷ 4 ∷ 6 ∷ []) ≡ (5 ∷ 3 ∷ [], 1 ∷ []))
+    × (signature G Q (0 ∷ 1 ∷ 1 ∷ 3 ∷ 4 ∷ 5 ∷ 6 ∷ 7 ∷ []) (7 ∷ 1 ∷ 5 ∷ 3 ∷ 0 ∷ []) ≡ (5 ∷ 3 ∷ [], 1 ∷ []))
+one_signature = (refl, refl)

@@ -11,5 +11,6 @@ pub mod View
 pub mod Report
 pub mod Core
 pub mod SameRows
+pub mod Signature
 -- how lists of numbers stand in memory
 pub mod Padded

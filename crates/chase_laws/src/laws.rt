@@ -6,15 +6,16 @@ ghost use Rattle.std.specs.Cmp.{IsEquivalence};
 ghost use Rattle.chase_laws.specs.declared.entry.Entry.{Entry};
 ghost use Rattle.chase_laws.specs.declared.pattern.Slot.TheVariants.{Entity};
 ghost use Rattle.chase_laws.specs.Shape.{Shape, IsPattern, PatternFacts, Walk, IsConnected, AllWithin, reached};
-ghost use Rattle.chase_laws.specs.Graph.{NumberedGraph, IsEntity};
+ghost use Rattle.chase_laws.specs.Graph.{NumberedGraph, IsEntity, IsGraph};
 ghost use Rattle.chase_laws.specs.SameRows.{HasRowsOf};
-ghost use Rattle.chase_laws.specs.Valuation.{IsValuation, Designates, Matches};
-ghost use Rattle.chase_laws.specs.Joined.{joined, joined_by, Joined};
+ghost use Rattle.chase_laws.specs.Valuation.{IsValuation, Designates, Coincide, Matches};
+ghost use Rattle.chase_laws.specs.Joined.{joined, joined_by, Joined, LabelsJoin};
 ghost use Rattle.chase_laws.specs.Chase.{IsStep, IsDerivation, IsLean, AreSame, IsClosed, IsAble};
 ghost use Rattle.chase_laws.specs.Candidate.{IsCandidate};
 ghost use Rattle.chase_laws.specs.Pairing.{ArePaired, ArePairedBy};
 ghost use Rattle.chase_laws.specs.Near.{IsNear};
 ghost use Rattle.chase_laws.specs.View.{label_in, same_by};
+ghost use Rattle.chase_laws.specs.Signature.{values_of, signature, ShareSignature, LabelsAll, IsCoarser, AreSettled, SignatureParts, ListsShared, AreListedSettled};
 
 /// What pairs join is the least equivalence that has them, and more pairs join more. The pair at the end counts as the one
 /// at the front does.
@@ -46,6 +47,13 @@ pub fn law_confluence()
 pub fn law_chase()
     ensures { (G : NumberedGraph) (K : List Shape) (H : List Entry) → IsDerivation G K H → IsClosed G K H →
         (a b : ℕ) → AreSame G K a b ↔ Joined H a b }
+{}
+
+/// No step goes beyond what is the same. Let a sameness of names make only such names the same as are: then what some key
+/// identifies up to it is the same. So no step applies to the classes of a report.
+pub fn law_same()
+    ensures { (G : NumberedGraph) (K : List Shape) (same : ℕ → ℕ → Bool) → ((m n : ℕ) → IsTrue (same m n) → AreSame G K m n) →
+        (a b : ℕ) → Matches G K same a b → AreSame G K a b }
 {}
 
 /// Every able pair is a candidate pair.
@@ -95,6 +103,39 @@ pub fn law_entities()
 pub fn law_view()
     ensures { (H : List Entry) (view : List (ℕ × ℕ)) → ((n l : ℕ) → label_in view n ≡ Some l → Joined H n l) →
         (m n : ℕ) → IsTrue (same_by view m n) → Joined H m n }
+{}
+
+/// The law of signatures. Let labels be equal exactly where entries join: then two valuations of a pattern coincide up to
+/// what the entries join exactly if they have one signature, and a key identifies two names exactly if some pattern has a
+/// valuation at each of them, with one signature. Valuations whose values differ coincide up to no sameness. Under coarser
+/// labels equal signatures stay equal.
+pub fn law_signature()
+    ensures coincide { (G : NumberedGraph) → IsGraph G → (labels : List ℕ) (H : List Entry) → LabelsAll G labels → LabelsJoin labels H →
+        (Q : Shape) (v w : List ℕ) → IsValuation G Q v → IsValuation G Q w →
+        Coincide G Q (joined_by H) v w ↔ (signature G Q labels v ≡ signature G Q labels w) }
+    ensures matches { (G : NumberedGraph) (K : List Shape) → IsGraph G → (labels : List ℕ) (H : List Entry) → LabelsAll G labels → LabelsJoin labels H →
+        (a b : ℕ) → Matches G K (joined_by H) a b ↔ ShareSignature G K labels a b }
+    ensures values { (G : NumberedGraph) (Q : Shape) (same : ℕ → ℕ → Bool) (v w : List ℕ) → Coincide G Q same v w → values_of G Q v ≡ values_of G Q w }
+    ensures coarser { (G : NumberedGraph) → IsGraph G → (labels labels' : List ℕ) → LabelsAll G labels → IsCoarser labels labels' →
+        (Q : Shape) (v w : List ℕ) → IsValuation G Q v → IsValuation G Q w →
+        signature G Q labels v ≡ signature G Q labels w → signature G Q labels' v ≡ signature G Q labels' w }
+
+    // An entry of two valuations of one signature is a step, and where any two such are at names of one label, no step
+    // goes further. So a derivation with such labels joins exactly what is the same.
+    ensures step { (G : NumberedGraph) (K : List Shape) → IsGraph G → (labels : List ℕ) (H : List Entry) → LabelsAll G labels → LabelsJoin labels H →
+        (Q : Shape) (e : Entry) → slice_get K e.key ≡ Some Q → IsValuation G Q e.left → IsValuation G Q e.right →
+        slice_index e.left 0 ≡ e.a → slice_index e.right 0 ≡ e.b → signature G Q labels e.left ≡ signature G Q labels e.right → IsStep G K H e }
+    ensures closed { (G : NumberedGraph) (K : List Shape) → IsGraph G → All IsPattern K → (labels : List ℕ) (H : List Entry) → LabelsAll G labels →
+        LabelsJoin labels H → AreSettled G K labels ↔ IsClosed G K H }
+    ensures same { (G : NumberedGraph) (K : List Shape) → IsGraph G → All IsPattern K → (labels : List ℕ) (H : List Entry) → LabelsAll G labels →
+        LabelsJoin labels H → IsDerivation G K H → AreSettled G K labels → (a b : ℕ) → AreSame G K a b ↔ Joined H a b }
+{}
+
+/// Of all valuations only those matter whose values another name has, too, and of those only one for each of their parts:
+/// where such a list is settled, all valuations are.
+pub fn law_listed()
+    ensures { (G : NumberedGraph) (K : List Shape) (listed : List SignatureParts) → ListsShared G K listed → (labels : List ℕ) →
+        AreListedSettled labels listed → AreSettled G K labels }
 {}
 
 /// What the test of a valid pattern says. What walks of at most n edges reach is what the test computes, and what any walk
