@@ -15,6 +15,7 @@ use Rattle.typed_graph.specs.Table.{Table}
 use Rattle.pair_seed.specs.declared.lead.Lead.{Lead}
 use Rattle.pair_seed.specs.Folds.{HasAlike, Holds, IsFoldTable, Serves}
 use Rattle.pair_seed.specs.Key.{SharesAtPlace, value_slot, IsLead}
+use Rattle.pair_seed.specs.Bounds.{IsLedTo}
 use Rattle.pair_seed.specs.Gathered.{HoldsOneOf}
 use Rattle.pair_seed.proofs.Lists.{some_same, contains_at, contains_next, contains_before, contains_here}
 
@@ -121,12 +122,18 @@ module _ (G : NumberedGraph) (Q : Shape) (lead : Lead) (is : IsLead Q lead) wher
       let shared : Shares G (value_slot lead.folded) is.edge.pred a b = subst (λ p. Shares G (value_slot lead.folded) p a b) (sym is.pred) (holds_shares G lead.folded lead.pred a b l row literal h) in
       subst (SharesAlong G Q a b) same ((shares_slot G Q a b is.edge (value_slot lead.folded) is.to is.from).0 shared)
 
+  -- a literal of a leads to whom the key pairs with it
+  pub lead_led : (a b : ℕ) → IsCandidateUnder G Q a b → IsLedTo G lead.folded a lead.pred b
+  lead_led a b paired =
+      let at : SharesAlong G Q a b is.edge = (all_places G Q a b).1 paired.share lead.place is.edge is.found in
+      let s = shares_holds G lead.folded lead.pred a b (subst (λ p. Shares G (value_slot lead.folded) p a b) is.pred (at is.from (value_slot lead.folded) is.to)) in
+      (s.0, s.2, s.1, s.3)
+
   -- to whom the key pairs with a one of the lead's literals leads
   pub lead_reaches : (a b : ℕ) → IsCandidateUnder G Q a b → (ls : List ℕ) → ((o : ℕ) → Contains ls o ↔ HasRow G a lead.pred o) → HoldsOneOf G lead.folded lead.pred ls b
   lead_reaches a b paired ls exact =
-      let at : SharesAlong G Q a b is.edge = (all_places G Q a b).1 paired.share lead.place is.edge is.found in
-      let s = shares_holds G lead.folded lead.pred a b (subst (λ p. Shares G (value_slot lead.folded) p a b) is.pred (at is.from (value_slot lead.folded) is.to)) in
-      (s.0, (exact s.0).1 s.1, s.2, s.3)
+      let s = lead_led a b paired in
+      (s.0, (exact s.0).1 s.2, s.1, s.3)
 
   -- a folded lead has its table
   pub lead_serves : (T : Table) → Serves G T Q → lead.folded ≡ true → IsFoldTable G T

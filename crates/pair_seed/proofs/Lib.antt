@@ -3,3 +3,4 @@ mod Keys
 mod Steps
 mod InOrder
 mod Whole
+mod Bounding

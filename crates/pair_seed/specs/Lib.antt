@@ -5,3 +5,4 @@ pub mod Stop
 pub mod Folds
 pub mod Key
 pub mod Gathered
+pub mod Bounds
