@@ -368,3 +368,16 @@ run_found parts order from end some within up before same other =
 -- a part of an order
 pub range_in_order : (parts : List SignatureParts) (order : List ℕ) (from end : ℕ) → in_order parts (slice_range order from end) ≡ slice_range (in_order parts order) from end
 range_in_order parts order from end = sym (take-map (part_at parts) (end - from) (drop from order)) ∙ ap (take (end - from)) (sym (drop-map (part_at parts) from order))
+
+-- what is kept after a run that is shared
+pub kept_more : (start now pushed : KeyRows) (parts : List SignatureParts) (order : List ℕ) (from end : ℕ) → IsRun (in_order parts order) from end →
+    (part_at (in_order parts order) from).name ≢ (part_at (in_order parts order) (end - 1)).name → now ≡ grown start (filter (is_shared (in_order parts order)) (take from (in_order parts order))) →
+    pushed ≡ grown now (in_order parts (slice_range order from end)) → pushed ≡ grown start (filter (is_shared (in_order parts order)) (take end (in_order parts order)))
+kept_more start now pushed parts order from end run other before is =
+    let listed = in_order parts order in
+    let front = filter (is_shared listed) (take from listed) in
+    let with : List SignatureParts → KeyRows = λ ps. record { key = start.key; value_count = start.value_count; image_count = start.image_count; parts = ps } in
+    is
+    ∙ ap (grown now) (range_in_order parts order from end)
+    ∙ ap (λ v. grown v (slice_range listed from end)) before
+    ∙ ap with (append_assoc start.parts front (slice_range listed from end) ∙ ap (λ ps. start.parts ++ ps) (sym (kept_run listed from end run other)))
