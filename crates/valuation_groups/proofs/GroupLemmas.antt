@@ -1,14 +1,14 @@
 -- Groups in their arrays, and lists with one group more.
-use Rattle.std.proofs.Common.{List, [], ◌∷◌, ◌++◌, ℕ, suc, length, get_or, take, drop, map, All, Contains, ◌≡◌, ◌≢◌, ◌<◌, ◌≤◌, ◌+◌, ◌-◌, ◌*◌, ◌⊎◌, inl, inr, refl, ap, sym, ◌∙◌, subst, arith}
+use Rattle.std.proofs.Common.{List, [], ◌∷◌, ◌++◌, ℕ, length, get_or, take, drop, map, All, Contains, ◌≡◌, ◌≢◌, ◌<◌, ◌≤◌, ◌+◌, ◌-◌, ◌*◌, ◌⊎◌, inl, inr, refl, ap, sym, ◌∙◌, subst, arith}
 use Rattle.std.specs.Prelude.{slice_range}
-use Rattle.std.specs.List.{concat, flat_map}
-use Rattle.std.proofs.lemmas.List.{length-take, length-drop, length-take-le, length-append, length-map, length_push, take-append-le, take-append-drop, take-take, drop-take, take_all, take_more, drop-append-le, drop_at, map_push, get_or_append_left, get_or_push, get_or-drop, get_or-map, get_or_default, append_assoc, append-nil, ext_get_or, take_at, drop-drop, get_or-take}
+use Rattle.std.specs.List.{concat}
+use Rattle.std.proofs.lemmas.List.{length-drop, length-take-le, length-append, length-map, length_push, take-append-le, take-append-drop, take-take, drop-take, take_all, take_more, drop-append-le, drop_at, map_push, get_or_append_left, get_or_push, get_or-drop, get_or-map, append_assoc, append-nil, ext_get_or, get_or-take}
 use Rattle.std.proofs.lemmas.List.Concat.{flat_map-append}
-use Rattle.std.proofs.lemmas.List.Elements.{All-head, All-tail, All-map, All-take, All-drop, All-push, Contains-push_cases, Contains-get_or, Contains-append_left, All-contains}
+use Rattle.std.proofs.lemmas.List.Elements.{All-head, All-tail, All-map, All-take, All-drop, All-push, Contains-push_cases, Contains-get_or, All-contains}
 use Rattle.std.proofs.lemmas.Bool.{cases_lt}
 use Rattle.chase_laws.specs.Signature.{SignatureParts}
-use Rattle.valuation_groups.specs.Cells.{row_at, rows_of}
-use Rattle.valuation_groups.specs.Rows.{KeyRows, part_at, IsOfShape, AreOfShape, AscendByValues}
+use Rattle.valuation_groups.specs.Cells.{rows_of}
+use Rattle.valuation_groups.specs.Rows.{KeyRows, part_at, IsOfShape, AreOfShape}
 use Rattle.valuation_groups.specs.Groups.{GroupShape, group_at, parts_in, parts_of_group, listed_of, AreApart}
 use Rattle.valuation_groups.specs.Heads.{values_at, shape_of, IsWithin}
 use Rattle.valuation_groups.specs.Filling.{rows_between, group_between}

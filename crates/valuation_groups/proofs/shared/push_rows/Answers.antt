@@ -1,4 +1,4 @@
-use Rattle.std.proofs.Common.{List, ℕ, [], ap, sym, ◌∙◌, ◌<◌, get_or, length, arith}
+use Rattle.std.proofs.Common.{List, ℕ, [], ap, sym, ◌∙◌, get_or, length, arith}
 use Rattle.chase_laws.specs.Signature.{SignatureParts}
 use Rattle.valuation_groups.specs.Rows.{KeyRows}
 use Rattle.valuation_groups.proofs.SharedLemmas.{rows_more}

@@ -1,4 +1,4 @@
-use Rattle.std.proofs.Common.{ap, sym, ◌∙◌, ◌≡◌, ◌<◌, ◌-◌, length, arith}
+use Rattle.std.proofs.Common.{ap, sym, ◌∙◌, ◌-◌, arith}
 use Rattle.chase_laws.specs.Signature.{SignatureParts}
 use Rattle.valuation_groups.specs.Shared.{in_order, grown}
 use Rattle.valuation_groups.proofs.SharedLemmas.{listed_ascend, rising_in_order, run_found, part_in_order, kept_more, left_run}

@@ -1,4 +1,4 @@
-use Rattle.std.proofs.Common.{List, [], ◌∷◌, ◌++◌, ℕ, ◌≡◌, ◌∙◌, length, take, drop, sym, subst, rules}
+use Rattle.std.proofs.Common.{List, ◌++◌, ℕ, ◌≡◌, ◌∙◌, length, take, drop, sym, subst, rules}
 use Rattle.std.proofs.lemmas.Cmp.{nat_list_cmp_total}
 use Rattle.std.proofs.lemmas.Fn.{always_returns_same}
 use Rattle.std.proofs.lemmas.List.{take_at}

@@ -1,9 +1,9 @@
-use Rattle.std.proofs.Common.{List, ℕ, [], ◌∷◌, ◌++◌, ◌≡◌, ◌<◌, ◌-◌, ◌^◌, ap, refl, ◌∙◌, length, arith}
+use Rattle.std.proofs.Common.{List, ℕ, [], ◌∷◌, ◌++◌, ◌<◌, ◌-◌, ◌^◌, ap, refl, ◌∙◌, length, arith}
 use Rattle.std.proofs.lemmas.List.{length_push}
 use Rattle.valuation_groups.specs.declared.groups.Head.{Head}
 use Rattle.valuation_groups.specs.Groups.{GroupShape}
-use Rattle.valuation_groups.specs.Filling.{rows_between, group_between}
-use Rattle.valuation_groups.proofs.GroupLemmas.{IsPut, run_put, heads_put, view_put}
+use Rattle.valuation_groups.specs.Filling.{rows_between}
+use Rattle.valuation_groups.proofs.GroupLemmas.{run_put, heads_put, view_put}
 use Rattle.valuation_groups.proofs.groups.ValuationGroups.add_group.Goals as goal
 
 pub invariant_of-self-2 : goal.invariant_of-self-2
