@@ -1,3 +1,6 @@
 mod BlockLaws
+mod CompleteLaws
+mod FindLaws
+mod MarkLaws
 mod Moves
 mod PartLaws

@@ -34,8 +34,10 @@ pub(crate) fn complete(
     let block = plan.block(s);
     let only = only_one(slot, marks[s]);
     let choice = choices(graph, block, &only, places);
-    for m in choice.names {
-        if goes_on_marked(graph, plan, marks, block, choice.place, slot, places, *m) {
+    let known = choice.place;
+    let names = choice.names;
+    for m in names {
+        if goes_on_marked(graph, plan, marks, block, known, slot, places, *m) {
             places.push(*m);
             if complete(graph, plan, marks, places) {
                 return true;
