@@ -1,6 +1,7 @@
 -- Marks of given values and images, slot by slot.
-use Rattle.std.proofs.Common.{List, [], ◌∷◌, ◌++◌, ℕ, zero, suc, Option, Some, slice_get, slice_index, get_or, set, length, ◌≡◌, ◌≢◌, ◌<◌, ◌+◌, inl, inr, refl, sym, ◌∙◌, ap, subst, arith, append_assoc}
+use Rattle.std.proofs.Common.{List, [], ◌∷◌, ◌++◌, ℕ, zero, suc, Option, Some, slice_get, slice_index, get_or, set, length, ◌≡◌, ◌≢◌, ◌<◌, ◌+◌, inl, inr, refl, sym, ◌∙◌, ap, subst, arith, append_assoc, length-append}
 use Rattle.std.specs.List.{flat_map, range_with_len}
+use Rattle.std.proofs.Math.ListN.{length-set}
 use Rattle.std.proofs.lemmas.Bool.{cases_eq}
 use Rattle.std.proofs.lemmas.List.{get_or-set_same, get_or-set_other, append-nil}
 use Rattle.std.proofs.lemmas.Option.{slice_get_within}
@@ -27,6 +28,19 @@ value_piece G Q v s = value_at G (slice_get Q.slots s) (slice_index v s)
 
 abbrev pub image_piece : Shape → List ℕ → ℕ → List ℕ
 image_piece Q v s = image_at s (slice_get Q.slots s) (slice_index v s)
+
+-- how long pieces are with one more
+pub pieces_length : (f : ℕ → List ℕ) (s a b : ℕ) → length (flat_map f (range_with_len 0 s)) ≡ a → length (f s) ≡ b → length (flat_map f (range_with_len 0 (s + 1))) ≡ a + b
+pieces_length f s a b h k =
+    let e : 0 + s ≡ s = omega arith in
+    let last : length (f (0 + s)) ≡ b = ap (λ (n : ℕ). length (f n)) e ∙ k in
+    ap length (pieces_last f 0 s) ∙ length-append (flat_map f (range_with_len 0 s)) (f (0 + s)) ∙ omega arith
+
+-- pieces with one more
+pub pieces_more : (f : ℕ → List ℕ) (s : ℕ) (xs ys piece : List ℕ) → xs ≡ flat_map f (range_with_len 0 s) → ys ≡ xs ++ piece → piece ≡ f s → ys ≡ flat_map f (range_with_len 0 (s + 1))
+pieces_more f s xs ys piece h k l =
+    let e : s ≡ 0 + s = omega arith in
+    k ∙ ap (λ (zs : List ℕ). zs ++ piece) h ∙ ap (λ (zs : List ℕ). flat_map f (range_with_len 0 s) ++ zs) (l ∙ ap f e) ∙ sym (pieces_last f 0 s)
 
 -- the numbers at the slots below s have the marks given for them
 abbrev pub AreMarkedTo : NumberedGraph → Shape → List ℕ → List (Option ℕ) → List ℕ → ℕ → Type 0
@@ -101,9 +115,9 @@ module _ (Q : Shape) (place values images : List ℕ) where
       marked_here : (G : NumberedGraph) (v : List ℕ) → AreMarkedTo G Q place (set marks (slice_index place s) mark) v (s + 1) → IsMarked G slot mark (slice_index v s)
       marked_here G v new = subst (λ (o : Option ℕ). IsMarked G slot o (slice_index v s)) here (new s slot (omega arith) at)
 
-      pub marks_more : length (set marks (slice_index place s) mark) ≡ 16 → AreMarksTo Q place values images (set marks (slice_index place s) mark) (s + 1) values'' images''
-      marks_more long = record {
-        long = long;
+      pub marks_more : AreMarksTo Q place values images (set marks (slice_index place s) mark) (s + 1) values'' images''
+      marks_more = record {
+        long = simp length-set before.long;
         every = λ G v r e h k.
             let x = first_left G v r (omega arith) h k in
             let y = next.every G (slice_index v s) (flat_map (value_piece G Q v) (range_with_len (s + 1) r)) (flat_map (image_piece Q v) (range_with_len (s + 1) r)) x.0 x.1 in
@@ -131,5 +145,10 @@ module _ (Q : Shape) (place values images : List ℕ) where
     (λ marked. let x = all.only G v (λ t slot lt at. marked t slot at) in (sym (append-nil (values_of G Q v)) ∙ x.0, sym (append-nil (images_of Q v)) ∙ x.1)),
   )
 
-  pub nothing_left : (marks : List (Option ℕ)) (s : ℕ) (values' images' : List ℕ) → s ≡ length Q.slots → AreMarksTo Q place values images marks s values' images' → (G : NumberedGraph) (v : List ℕ) → HasGiven G Q values images v → ([] ≡ values') × ([] ≡ images')
-  nothing_left marks s values' images' e all G v has = let x = all.every G v 0 (omega arith) has.1 has.2 in (x.0, x.1)
+  pub marks_done : (marks : List (Option ℕ)) (s : ℕ) (values' images' : List ℕ) → s ≡ length Q.slots → length values' ≡ 0 → length images' ≡ 0 → AreMarksTo Q place values images marks s values' images' → AreMarksOf Q place values images marks
+  marks_done marks s [] [] e n m all = marks_all marks (subst (λ (k : ℕ). AreMarksTo Q place values images marks k [] []) e all)
+  marks_done marks s (x ∷ xs) ys e n m all = absurd (omega arith)
+  marks_done marks s [] (y ∷ ys) e n m all = absurd (omega arith)
+
+  pub none_left : (marks : List (Option ℕ)) (s : ℕ) (values' images' : List ℕ) → s ≡ length Q.slots → AreMarksTo Q place values images marks s values' images' → (G : NumberedGraph) (v : List ℕ) → HasGiven G Q values images v → (length values' ≡ 0) × (length images' ≡ 0)
+  none_left marks s values' images' e all G v has = let x = all.every G v 0 (omega arith) has.1 has.2 in (sym (ap length x.0), sym (ap length x.1))

@@ -1,10 +1,10 @@
 //! Marks: what the names at some places of a plan have to be.
 
-ghost use Rattle.std.specs.Prelude.{◌≡◌, ◌<◌, ◌≤◌, ◌↔◌, ℕ, IsTrue, IfSome, IfNone, List, length, slice_get, slice_index};
+ghost use Rattle.std.specs.Prelude.{◌≡◌, ◌<◌, ◌≤◌, ◌↔◌, ℕ, IsTrue, IfSome, IfNone, List, Some, length, slice_get, slice_index};
 ghost use Rattle.chase_laws.specs.Graph.{NumberedGraph, IsLiteral};
 ghost use Rattle.chase_laws.specs.Valuation.{FitsSlot};
 ghost use Rattle.key_plan.specs.Route.{IsPlanOf};
-ghost use Rattle.key_valuations.specs.Marks.{IsMarked, IsNextMark, IsUsedUp, AreMarksOf, HasGiven};
+ghost use Rattle.key_valuations.specs.Marks.{mark_at, IsMarked, IsNextMark, IsUsedUp, AreMarksOf, HasGiven};
 
 use chase_laws::{Pattern, Slot};
 use key_plan::Plan;
@@ -30,6 +30,22 @@ pub(crate) fn has_mark(graph: &Graph, slot: Slot, mark: Option<u32>, n: u32) -> 
         Slot::Folded => is_alike_to(graph, n, k),
         Slot::Any(_) | Slot::Fixed(_) => true,
     }
+}
+
+/// The slot of a pattern at a place.
+pub(crate) fn slot_at(pattern: &Pattern, s: usize) -> Slot
+    requires { s < length pattern.now.slots }
+    ensures { slice_get pattern.now.slots s ≡ Some result }
+{
+    pattern.slots()[s]
+}
+
+/// The mark that is given for a place, if one is.
+pub(crate) fn mark_of(marks: &[Option<u32>], place: usize) -> Option<u32>
+    requires { place < length marks.now }
+    ensures { result ≡ mark_at marks.now place }
+{
+    marks[place]
 }
 
 /// The mark at a slot, and the values and images that are given for the slots behind it.
@@ -83,20 +99,24 @@ pub(crate) fn marks_of(
     ensures some { IfSome result (λ marks. AreMarksOf pattern.now plan.now.place values.now images.now marks) }
     ensures none { IfNone result ((G : NumberedGraph) (v : List ℕ) → ¬ (HasGiven G pattern.now values.now images.now v)) }
 {
-    let slots = pattern.slots();
+    let count = pattern.slots().len();
     let mut marks = [None; 16];
     let mut values_left = values;
     let mut images_left = images;
-    for s in 0..slots.len() {
-        let slot = slots[s];
-        let next = next_mark(slot, s, values_left, images_left)?;
+    for s in 0..count {
+        let slot = slot_at(pattern, s);
+        let Some(next) = next_mark(slot, s, values_left, images_left) else {
+            return None;
+        };
         marks[plan.place(s)] = next.mark;
         values_left = next.values;
         images_left = next.images;
     }
-    if values_left.is_empty() && images_left.is_empty() {
-        Some(marks)
-    } else {
-        None
+    if !values_left.is_empty() {
+        return None;
     }
+    if !images_left.is_empty() {
+        return None;
+    }
+    Some(marks)
 }

@@ -4,7 +4,7 @@ use Rattle.std.proofs.lemmas.List.{take_all}
 use Rattle.std.proofs.lemmas.List.Elements.{Contains-get_or}
 use Rattle.key_plan.specs.Route.{IsBlock}
 use Rattle.key_valuations.specs.Part.{HoldsAt}
-use Rattle.key_valuations.specs.Marks.{IsMarkedPart, IsCompletedBy}
+use Rattle.key_valuations.specs.Marks.{OnlyOne, IsMarkedPart, IsCompletedBy, mark_at}
 use Rattle.key_valuations.proofs.PartLaws.{popped}
 use Rattle.key_valuations.proofs.CompleteLaws.{completes_before, next, none_more}
 use Rattle.key_valuations.proofs.complete.+complete.Goals as goal
@@ -44,7 +44,8 @@ returns-clause-none t c = λ _ v d.
     let here = c.len-s.ensures.length in
     let short : length p < length P.slots = omega (arith, c.if-s-len.false, c.len.ensures, c.len-s.ensures.length) in
     let x = next G P marks slot c.block-block.result.now p v short (subst (λ k. slice_get P.slots k ≡ Some slot) here c.slot-slot.ensures) (subst (λ k. IsBlock P k c.block-block.result.now) here c.block-block.ensures) d in
-    let h = c.only_one-arg-1 in
-    let k = c.only_one-only.ensures G in
-    let covered = c.choices-choice.ensures.covers slot ? ? (slice_index v (length p)) x.fits x.marked x.edges in
+    let mark : Option ℕ = mark_at marks (length p) in
+    let e : c.mark_of-mark.result ≡ mark = c.mark_of-mark.ensures ∙ ap (mark_at marks) here in
+    let only : OnlyOne G slot mark c.only_one-only.result = subst (λ (o : Option ℕ). OnlyOne G slot o c.only_one-only.result) e (c.only_one-only.ensures G) in
+    let covered = c.choices-choice.ensures.covers slot mark only (slice_index v (length p)) x.fits x.marked x.edges in
     c.loop-m.invariant.none v d (rw (take_all c.loop-m.m-index names c.loop-m-test.false) (subst (λ k. Contains names (slice_index v k)) (sym here) covered))
