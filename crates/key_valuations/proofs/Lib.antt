@@ -1,6 +1,7 @@
 mod BlockLaws
 mod CompleteLaws
 mod FindLaws
+mod GroupLaws
 mod ListingLaws
 mod MarkLaws
 mod Moves

@@ -9,15 +9,16 @@ use Rattle.chase_laws.specs.declared.pattern.Slot.{Slot}
 use Rattle.chase_laws.specs.declared.pattern.Slot.TheVariants.{Entity, Any as AnyOf, Value, Folded, Fixed}
 use Rattle.chase_laws.specs.Shape.{Shape, PatternFacts}
 use Rattle.chase_laws.specs.Graph.{NumberedGraph}
+use Rattle.chase_laws.specs.Valuation.{IsValuation}
 use Rattle.chase_laws.specs.Signature.{SignatureParts, parts_of, value_at, image_at, values_of, images_of}
 use Rattle.key_plan.specs.Route.{Route, IsPlanOf}
 use Rattle.valuation_groups.specs.Rows.{KeyRows}
 use Rattle.key_valuations.specs.Part.{IsPlaced}
-use Rattle.key_valuations.specs.Marks.{IsCompletedBy}
-use Rattle.key_valuations.specs.Listing.{IsBare, AreBareFrom, IsReached, AddsParts}
+use Rattle.key_valuations.specs.Marks.{IsCompletedBy, IsMarkedPart}
+use Rattle.key_valuations.specs.Listing.{IsBare, AreBareFrom, IsReached, AddsParts, AddsSome}
 use Rattle.key_valuations.proofs.PartLaws.{last_at}
 use Rattle.key_valuations.proofs.MarkLaws.{value_piece, image_piece}
-use Rattle.key_valuations.proofs.CompleteLaws.{completes_next, completes_before, contains_more}
+use Rattle.key_valuations.proofs.CompleteLaws.{completes_next, completes_before, contains_more, marked_front}
 use Rattle.key_valuations.proofs.Moves.{there}
 
 -- ---- rows and tests
@@ -164,8 +165,10 @@ module _ (G : NumberedGraph) (Q : Shape) (R : Route) (marks : List (Option ℕ))
     completed = subst (λ (n : ℕ). IsCompletedBy G R.shape marks (p ++ n ∷ []) r.ordered) (sym e) (completes_next G R.shape marks p r.ordered short r.completed).1;
   }
 
-  pub reached_before : (m : ℕ) (v : List ℕ) → IsReached G R marks (p ++ m ∷ []) v → IsReached G R marks p v
-  reached_before m v r = record { ordered = r.ordered; placed = r.placed; completed = completes_before G R.shape marks p r.ordered m r.completed }
+  -- what is reached from a list shows that it is part of a valuation
+  pub reached_part : (m : ℕ) (v : List ℕ) → IsReached G R marks (p ++ m ∷ []) v → IsMarkedPart G R.shape marks (p ++ m ∷ [])
+  reached_part m v r = subst (IsMarkedPart G R.shape marks) r.completed.begins
+      (marked_front G R.shape marks r.ordered (length (p ++ m ∷ [])) (omega (arith, length-append p (m ∷ []))) r.completed.valuation r.completed.marked)
 
   next_is : (m : ℕ) (v : List ℕ) → take (length (p ++ m ∷ [])) v ≡ p ++ m ∷ [] → slice_index v (length p) ≡ m
   next_is m v e = sym (get_or-take (length (p ++ m ∷ [])) v (length p) 0 (omega (arith, length-append p (m ∷ [])))) ∙ ap (λ (q : List ℕ). slice_index q (length p)) e ∙ last_at p m 0
@@ -179,7 +182,7 @@ module _ (G : NumberedGraph) (Q : Shape) (R : Route) (marks : List (Option ℕ))
 
     reached_new : (v : List ℕ) → IsReached G R marks (p ++ get_or names i 0 ∷ []) v → IsReachedBy G R marks p (take (i + 1) names) v
     reached_new v r = record {
-      reached = reached_before (get_or names i 0) v r;
+      reached = record { ordered = r.ordered; placed = r.placed; completed = completes_before G R.shape marks p r.ordered (get_or names i 0) r.completed };
       tried = subst (Contains (take (i + 1) names)) (sym (next_is (get_or names i 0) r.ordered r.completed.begins))
           (subst (λ (xs : List ℕ). Contains xs (get_or names i 0)) (sym (take_more names i 0 within)) (Contains-push (take i names) (get_or names i 0)));
     }
@@ -193,3 +196,45 @@ module _ (G : NumberedGraph) (Q : Shape) (R : Route) (marks : List (Option ℕ))
     pub tried_more : (old mid new : KeyRows) → AddsParts G Q (IsReachedBy G R marks p (take i names)) old mid → AddsParts G Q (IsReached G R marks (p ++ get_or names i 0 ∷ [])) mid new →
         AddsParts G Q (IsReachedBy G R marks p (take (i + 1) names)) old new
     tried_more old mid new first second = adds_then G Q _ _ _ old mid new first second reached_cases reached_more reached_new
+
+-- ---- rows that have at least what passes
+
+module _ (G : NumberedGraph) (Q : Shape) where
+  pub some_none : (A : List ℕ → Type 0) (rows : KeyRows) → ((v : List ℕ) → A v → ⊥) → AddsSome G Q A rows rows
+  some_none A rows none = record {
+    key = refl;
+    value_count = refl;
+    image_count = refl;
+    kept = λ p h. h;
+    only = λ p h. inl h;
+    every = λ v a. absurd (none v a);
+  }
+
+  pub some_of_all : (A B : List ℕ → Type 0) (old new : KeyRows) → AddsParts G Q A old new → ((v : List ℕ) → A v → IsValuation G Q v) → ((v : List ℕ) → B v → A v) → AddsSome G Q B old new
+  some_of_all A B old new x valuation a = record {
+    key = x.key;
+    value_count = x.value_count;
+    image_count = x.image_count;
+    kept = x.kept;
+    only = λ p h. elim (x.only p h) [
+      | inl o ↦ inl o
+      | inr y ↦ inr (y.0, valuation y.0 y.1, y.2)
+    ];
+    every = λ v b. x.every v (a v b);
+  }
+
+  pub some_then : (A B C : List ℕ → Type 0) (old mid new : KeyRows) → AddsSome G Q A old mid → AddsSome G Q B mid new → ((v : List ℕ) → C v → A v ⊎ B v) → AddsSome G Q C old new
+  some_then A B C old mid new first second split = record {
+    key = second.key ∙ first.key;
+    value_count = second.value_count ∙ first.value_count;
+    image_count = second.image_count ∙ first.image_count;
+    kept = λ p h. second.kept p (first.kept p h);
+    only = λ p h. elim (second.only p h) [
+      | inl m ↦ first.only p m
+      | inr y ↦ inr (y.0, y.1, subst (λ (key : ℕ). p ≡ parts_of G key Q y.0) first.key y.2)
+    ];
+    every = λ v c. elim (split v c) [
+      | inl x ↦ second.kept (parts_of G old.key Q v) (first.every v x)
+      | inr y ↦ subst (λ (key : ℕ). Contains new.parts (parts_of G key Q v)) first.key (second.every v y)
+    ];
+  }

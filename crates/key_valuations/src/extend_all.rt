@@ -68,7 +68,8 @@ fn add_completion(
         return Ok(());
     }
     let valuation = by_slots(plan, &whole);
-    add_row(graph, pattern, &valuation, lists, rows)
+    add_row(graph, pattern, &valuation, lists, rows)?;
+    Ok(())
 }
 
 /// Adds a row for each choice of values and images of the valuations that begin with this list and have the given marks. From
@@ -94,7 +95,8 @@ pub(crate) fn extend_all(
 {
     let s = places.len();
     if s >= bare || s >= plan.len() {
-        return add_completion(graph, pattern, plan, marks, places, lists, rows);
+        add_completion(graph, pattern, plan, marks, places, lists, rows)?;
+        return Ok(());
     }
     let slot = plan.slot(s);
     let block = plan.block(s);

@@ -8,6 +8,7 @@
 //! - `find`: one valuation with given parts
 //! - `parts`: the parts of a valuation as a row
 //! - `extend_all`: all choices at the slots behind a list
+//! - `list`: the valuations of all keys whose values another name has, too
 #![tactic(auto)]
 
 mod choices;
@@ -15,7 +16,9 @@ mod complete;
 mod extend_all;
 mod find;
 mod fits;
+mod list;
 mod marks;
 mod parts;
 
+pub use list::list_valuations;
 pub use find::find_valuation;

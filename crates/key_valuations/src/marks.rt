@@ -1,6 +1,6 @@
 //! Marks: what the names at some places of a plan have to be.
 
-ghost use Rattle.std.specs.Prelude.{◌≡◌, ◌<◌, ◌≤◌, ◌↔◌, ℕ, IsTrue, IfSome, IfNone, List, Some, length, slice_get, slice_index};
+ghost use Rattle.std.specs.Prelude.{◌≡◌, ◌<◌, ◌≤◌, ◌↔◌, ℕ, IsTrue, IfSome, IfNone, List, None, Some, length, slice_get, slice_index};
 ghost use Rattle.chase_laws.specs.Graph.{NumberedGraph, IsLiteral};
 ghost use Rattle.chase_laws.specs.Valuation.{FitsSlot};
 ghost use Rattle.key_plan.specs.Route.{IsPlanOf};
@@ -38,6 +38,14 @@ pub(crate) fn slot_at(pattern: &Pattern, s: usize) -> Slot
     ensures { slice_get pattern.now.slots s ≡ Some result }
 {
     pattern.slots()[s]
+}
+
+/// No mark for any place.
+pub(crate) fn no_marks() -> [Option<u32>; 16]
+    ensures none { (place : ℕ) → mark_at result place ≡ None }
+    ensures long { length result ≡ 16 }
+{
+    [None; 16]
 }
 
 /// The mark that is given for a place, if one is.

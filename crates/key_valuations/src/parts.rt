@@ -118,5 +118,6 @@ pub(crate) fn add_row(
     for s in 0..count {
         add_part(graph, slot_at(pattern, s), s, valuation.get(s), lists)?;
     }
-    rows.push(&lists.values, valuation.get(0), &lists.images)
+    rows.push(&lists.values, valuation.get(0), &lists.images)?;
+    Ok(())
 }

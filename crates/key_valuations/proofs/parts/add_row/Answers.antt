@@ -1,8 +1,6 @@
 -- One slot after another.
-use Rattle.std.proofs.Common.{[], ◌∷◌, ◌++◌, List, ℕ, Option, ◌≡◌, length, slice_get, slice_index, sym, ◌∙◌, ap, subst, arith}
+use Rattle.std.proofs.Common.{[], ◌∷◌, ◌++◌, List, ℕ, Option, Some, ◌≡◌, length, slice_get, slice_index, sym, ◌∙◌, ap, ap₂, arith}
 use Rattle.std.specs.List.{flat_map, range_with_len}
-use Rattle.std.specs.Result.{OnOk}
-use Rattle.chase_laws.specs.declared.pattern.Slot.{Slot}
 use Rattle.chase_laws.specs.Signature.{value_at, image_at, values_of, images_of}
 use Rattle.key_valuations.proofs.MarkLaws.{value_piece, image_piece, pieces_more}
 use Rattle.key_valuations.proofs.parts.add_row.Goals as goal
@@ -14,11 +12,10 @@ loop-s-preserved c =
     let v = c.args.valuation.now in
     let s = c.loop-s.s in
     let slot = c.slot_at.result in
-    let n : c.get.result ≡ slice_index v s = c.get.ensures in
-    let at = sym c.slot_at.ensures in
+    let at : Some slot ≡ slice_get Q.slots s = sym c.slot_at.ensures in
     record {
-      values = pieces_more (value_piece G Q v) s _ _ _ c.loop-s.invariant.values c.in_ok-add_part.ensures.values (rw (n, at) refl);
-      images = pieces_more (image_piece Q v) s _ _ _ c.loop-s.invariant.images c.in_ok-add_part.ensures.images (rw (n, at) refl);
+      values = pieces_more (value_piece G Q v) s _ _ _ c.loop-s.invariant.values c.in_ok-add_part.ensures.values (ap₂ (value_at G) at c.get.ensures);
+      images = pieces_more (image_piece Q v) s _ _ _ c.loop-s.invariant.images c.in_ok-add_part.ensures.images (ap₂ (image_at s) at c.get.ensures);
     }
 
 pub push-requires-clause-values : goal.push-requires-clause-values
@@ -42,4 +39,4 @@ returns c =
     let u : c.deref.result.now ≡ values_of c.args.graph.now Q c.args.valuation.now = c.deref.ensures.value ∙ c.loop-s.invariant.values ∙ ap (λ (k : ℕ). flat_map (value_piece c.args.graph.now Q c.args.valuation.now) (range_with_len 0 k)) all in
     let w : c.deref-2.result.now ≡ images_of Q c.args.valuation.now = c.deref-2.ensures.value ∙ c.loop-s.invariant.images ∙ ap (λ (k : ℕ). flat_map (image_piece Q c.args.valuation.now) (range_with_len 0 k)) all in
     let n : c.get-2.result ≡ slice_index c.args.valuation.now 0 = c.get-2.ensures in
-    rw (u, w, n) at c.push.ensures.ok
+    rw (u, w, n) at c.in_ok-push.ensures.ok
