@@ -8,7 +8,7 @@ use Rattle.chase_laws.specs.Graph.{NumberedGraph}
 use Rattle.chase_laws.specs.Valuation.{IsValuation}
 use Rattle.chase_laws.specs.Signature.{SignatureParts, parts_of, values_of, ArePartsOfSome, ListsShared}
 use Rattle.valuation_groups.specs.Rows.{KeyRows, IsShared, StandOnce}
-use Rattle.valuation_groups.specs.Groups.{GroupShape, listed_of}
+use Rattle.valuation_groups.specs.Groups.{AreApart}
 use Rattle.key_valuations.specs.Parts.{IsSharedIn}
 use Rattle.key_valuations.specs.Listing.{AreAlikeInValues, AreRowsOf, AreSharedRowsOf}
 
@@ -31,6 +31,9 @@ listed_none G K = record {
   below = λ p h. absurd (let k = h.1 in omega arith);
   once = λ i j d lt in_j. absurd (omega arith);
 }
+
+pub apart_none : AreApart []
+apart_none = record { apart = λ i j a b. absurd (omega arith); some = λ k d h. absurd (omega arith) }
 
 -- no part stands twice in two lists that have no part in common, if none does in each
 once_append : (xs ys : List SignatureParts) → StandOnce xs → StandOnce ys → ((p : SignatureParts) → Contains xs p → Contains ys p → ⊥) → StandOnce (xs ++ ys)

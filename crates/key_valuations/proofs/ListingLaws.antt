@@ -15,6 +15,7 @@ use Rattle.key_plan.specs.Route.{Route, IsPlanOf}
 use Rattle.valuation_groups.specs.Rows.{KeyRows}
 use Rattle.key_valuations.specs.Part.{IsPlaced}
 use Rattle.key_valuations.specs.Marks.{IsCompletedBy, IsMarkedPart}
+use Rattle.key_valuations.specs.Counts.{HasCounts}
 use Rattle.key_valuations.specs.Listing.{IsBare, AreBareFrom, IsReached, AddsParts, AddsSome}
 use Rattle.key_valuations.proofs.PartLaws.{last_at}
 use Rattle.key_valuations.proofs.MarkLaws.{value_piece, image_piece}
@@ -238,3 +239,7 @@ module _ (G : NumberedGraph) (Q : Shape) where
       | inr y ↦ subst (λ (key : ℕ). Contains new.parts (parts_of G key Q v)) first.key (second.every v y)
     ];
   }
+
+-- rows keep how many values and images they have
+pub counts_kept : (Q : Shape) (old new : KeyRows) → new.value_count ≡ old.value_count → new.image_count ≡ old.image_count → HasCounts Q old.value_count old.image_count → HasCounts Q new.value_count new.image_count
+counts_kept Q old new e f h = λ G v. ((h G v).0 ∙ sym e, (h G v).1 ∙ sym f)

@@ -4,10 +4,11 @@ use Rattle.std.proofs.lemmas.List.{take_all}
 use Rattle.key_plan.specs.Route.{IsBlock}
 use Rattle.valuation_groups.specs.Rows.{KeyRows}
 use Rattle.key_valuations.specs.Marks.{OnlyOne, IsMarkedPart, mark_at}
+use Rattle.key_valuations.specs.Counts.{HasCounts}
 use Rattle.key_valuations.specs.Listing.{IsReached, AddsParts}
 use Rattle.key_valuations.proofs.PartLaws.{popped}
 use Rattle.key_valuations.proofs.CompleteLaws.{next}
-use Rattle.key_valuations.proofs.ListingLaws.{IsReachedBy, adds_none, adds_same, tried_more, reached_part}
+use Rattle.key_valuations.proofs.ListingLaws.{IsReachedBy, adds_none, adds_same, counts_kept, tried_more, reached_part}
 use Rattle.key_valuations.proofs.extend_all.+extend_all.Goals as goal
 use Rattle.key_valuations.proofs.extend_all.+extend_all.Goals.{then-goes_on_marked+in_ok-extend_all, else-goes_on_marked}
 
@@ -16,6 +17,7 @@ loop-m-init t c = record {
   places = refl;
   added = adds_none c.args.graph.now c.args.pattern.now (IsReachedBy c.args.graph.now c.args.plan.now c.args.marks.now c.args.places.now []) c.args.rows.now
       (λ v r. absurd (let k = r.tried.1 in omega arith));
+  counts = c.requires.counts;
 }
 
 pub loop-m-preserved : goal.loop-m-preserved
@@ -46,6 +48,11 @@ loop-m-preserved t c =
             (tried_more G Q R marks p short names i c.loop-m-test.true old c.loop-m.rows c.loop-m.rows c.loop-m.invariant.added
             (adds_none G Q (IsReached G R marks (p ++ m ∷ [])) c.loop-m.rows
             (λ v r. true≢false (sym (c.goes_on_marked.ensures.1 (rw c.loop-m.invariant.places (reached_part G Q R marks p short m v r))) ∙ w.if-goes_on_marked.false))))
+      ];
+      counts = elim c.if-goes_on_marked.branch [
+        | then-goes_on_marked+in_ok-extend_all w ↦ subst (λ (rows : KeyRows). HasCounts Q rows.value_count rows.image_count) (sym w.rows-is)
+            (counts_kept Q c.loop-m.rows w.extend_all.new.rows w.in_ok-extend_all.ensures.added.value_count w.in_ok-extend_all.ensures.added.image_count c.loop-m.invariant.counts)
+        | else-goes_on_marked w ↦ subst (λ (rows : KeyRows). HasCounts Q rows.value_count rows.image_count) (sym w.rows-is) c.loop-m.invariant.counts
       ];
     }
 
