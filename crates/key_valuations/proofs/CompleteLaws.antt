@@ -20,8 +20,8 @@ front_next : (v p : List ℕ) → length p < length v → take (length p) v ≡ 
 front_next v p h e = take_more v (length p) 0 h ∙ ap (λ q. q ++ slice_index v (length p) ∷ []) e
 
 -- one element more
-pub contains_more : (xs : List ℕ) (i x : ℕ) → i < length xs → Contains (take (i + 1) xs) x → Contains (take i xs) x ⊎ (get_or xs i 0 ≡ x)
-contains_more xs i x h c = Contains-push_cases (take i xs) (get_or xs i 0) x (rw (take_more xs i 0 h) at c)
+pub contains_more : {X : Type 0} (xs : List X) (i : ℕ) (x d : X) → i < length xs → Contains (take (i + 1) xs) x → Contains (take i xs) x ⊎ (get_or xs i d ≡ x)
+contains_more xs i x d h c = Contains-push_cases (take i xs) (get_or xs i d) x (rw (take_more xs i d h) at c)
 
 -- what a valuation that completes a list has behind it
 pub record Next (G : NumberedGraph) (Q : Shape) (marks : List (Option ℕ)) (slot : Slot) (block : List Edge) (p : List ℕ) (m : ℕ) : Type 0 where
@@ -98,7 +98,7 @@ module _ (G : NumberedGraph) (Q : Shape) (marks : List (Option ℕ)) where
       (IsMarkedPart G Q marks (p ++ get_or xs i 0 ∷ []) → (v : List ℕ) → IsCompletedBy G Q marks (p ++ get_or xs i 0 ∷ []) v → ⊥) →
       ((v : List ℕ) → IsCompletedBy G Q marks p v → Contains (take i xs) (get_or v s 0) → ⊥) →
       (v : List ℕ) → IsCompletedBy G Q marks p v → Contains (take (i + 1) xs) (get_or v s 0) → ⊥
-  none_more p s i xs here short in_i next before v c at = elim (contains_more xs i (get_or v s 0) in_i at) [
+  none_more p s i xs here short in_i next before v c at = elim (contains_more xs i (get_or v s 0) 0 in_i at) [
     | inl old ↦ before v c old
     | inr new ↦
         (let both = completes_next p v short c in

@@ -189,7 +189,7 @@ module _ (G : NumberedGraph) (Q : Shape) (R : Route) (marks : List (Option ℕ))
     }
 
     reached_cases : (v : List ℕ) → IsReachedBy G R marks p (take (i + 1) names) v → IsReachedBy G R marks p (take i names) v ⊎ IsReached G R marks (p ++ get_or names i 0 ∷ []) v
-    reached_cases v r = elim (contains_more names i (slice_index r.reached.ordered (length p)) within r.tried) [
+    reached_cases v r = elim (contains_more names i (slice_index r.reached.ordered (length p)) 0 within r.tried) [
       | inl old ↦ inl (record { reached = r.reached; tried = old })
       | inr new ↦ inr (reached_next (get_or names i 0) v r.reached new)
     ]
