@@ -1,0 +1,5 @@
+mod CellLemmas
+mod RowLemmas
+mod OrderLemmas
+mod GroupLemmas
+mod SharedLemmas
