@@ -1,0 +1,3 @@
+-- inner invariants and words of the proofs
+pub mod Waiting
+pub mod Owned

@@ -1,0 +1,5 @@
+//! The chase by signatures.
+#![tactic(auto)]
+
+mod owners;
+mod queue;
