@@ -1,3 +1,3 @@
--- inner invariants and words of the proofs
+pub mod Owning
 pub mod Waiting
 pub mod Owned

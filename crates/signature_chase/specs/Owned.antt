@@ -23,5 +23,5 @@ LeadsBack owners = (place : ℕ) → place < length owners → (owner_at owners 
 
 -- heads and owners as they are kept
 pub record AreOwners (heads : List ℕ) (owners : List Owner) : Type 0 where
-  pub heads : All (λ head. head ≤ length owners) heads
+  pub begin : All (λ head. head ≤ length owners) heads
   pub back : LeadsBack owners

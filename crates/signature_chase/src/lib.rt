@@ -3,3 +3,4 @@
 
 mod owners;
 mod queue;
+mod waking;

@@ -1,7 +1,9 @@
 //! For each name the groups that have it among their images.
 
-ghost use Rattle.std.specs.Prelude.{[], ◌≡◌, ◌<◌, ◌⊎◌, ℕ, Contains, IfOk, IsTrue, OnOk, length};
+ghost use Rattle.std.specs.Prelude.{[], ◌≡◌, ◌<◌, ◌≤◌, ℕ, Contains, IfOk, IsTrue, OnOk, length};
 ghost use Rattle.list_pool.specs.Pool.{list_at};
+ghost use Rattle.signature_chase.specs.Owned.{LeadsBack, chain};
+ghost use Rattle.signature_chase.specs.Owning.{PutsInto};
 
 use crate::queue::Queue;
 use gk_base::NoMemory;
@@ -34,6 +36,23 @@ impl Model for Owners {
     ghost invariant = { λ o. AreOwners o.heads.items o.owners.items };
 }
 
+/// Lets the groups of a chain of owners wait.
+fn queue_chain(owners: &[Owner], head: u32, queue: &mut Queue)
+    requires back { LeadsBack owners.now }
+    requires head { head ≤ length owners.now }
+    requires groups { (g : ℕ) → Contains (chain owners.now (length owners.now) head) g → g < queue.old.count }
+    ensures woken { (g : ℕ) → Contains (chain owners.now (length owners.now) head) g → Contains queue.new.list g }
+    ensures kept { (g : ℕ) → Contains queue.old.list g → Contains queue.new.list g }
+    ensures count { queue.new.count ≡ queue.old.count }
+{
+    let mut at = head;
+    while at > 0 {
+        let owner = owners[at as usize - 1];
+        queue.push(owner.group);
+        at = owner.next;
+    }
+}
+
 impl Owners {
     /// An empty list for each name below a number.
     pub fn new(alloc: Global, names: u32) -> Result<Owners, NoMemory>
@@ -60,10 +79,7 @@ impl Owners {
     /// its images at a stretch stands in each once.
     pub fn add(&mut self, name: u32, group: u32) -> Result<(), NoMemory>
         requires { name < length self.old }
-        ensures count { OnOk result (length self.new ≡ length self.old) }
-        ensures added { OnOk result (Contains (list_at self.new name) group) }
-        ensures kept { OnOk result ((n g : ℕ) → Contains (list_at self.old n) g → Contains (list_at self.new n) g) }
-        ensures only { OnOk result ((n g : ℕ) → Contains (list_at self.new n) g → Contains (list_at self.old n) g ⊎ (g ≡ group)) }
+        ensures { OnOk result (PutsInto self.old self.new group (λ m. m ≡ name)) }
     {
         if self.begins_with(name, group) {
             return Ok(());
@@ -85,11 +101,7 @@ impl Owners {
         ensures kept { (g : ℕ) → Contains queue.old.list g → Contains queue.new.list g }
         ensures count { queue.new.count ≡ queue.old.count }
     {
-        let mut at = self.heads[name as usize];
-        while at > 0 {
-            let owner = self.owners[at as usize - 1];
-            queue.push(owner.group);
-            at = owner.next;
-        }
+        let head = self.heads[name as usize];
+        queue_chain(&self.owners, head, queue);
     }
 }

@@ -17,7 +17,7 @@ pub struct Queue {
 }
 
 impl Model for Queue {
-    ghost use Rattle.std.specs.Prelude.{length};
+    ghost use Rattle.std.specs.Prelude.{◌≡◌, length};
     ghost use Rattle.list_pool.specs.Pool.{list_at};
     ghost use Rattle.signature_chase.specs.Waiting.{Waiting};
 
@@ -41,6 +41,34 @@ fn all_waiting(alloc: Global, count: u32) -> Result<Pool, NoMemory>
     Ok(pool)
 }
 
+/// Takes the first cell out of the only list of a pool.
+fn take_first(pool: &mut Pool) -> Option<u32>
+    requires { length pool.old.lists ≡ 1 }
+    ensures first { MatchOption result (list_at pool.old.lists 0 ≡ []) (λ g. list_at pool.old.lists 0 ≡ g ∷ list_at pool.new.lists 0) }
+    ensures group { IfSome result (λ g. g < pool.old.cells) }
+    ensures lists { length pool.new.lists ≡ 1 }
+    ensures cells { pool.new.cells ≡ pool.old.cells }
+{
+    // Its contract says that each cell in a list is one of the pool's.
+    let _ = pool.first(0);
+    pool.pop_front(0)
+}
+
+/// Puts a cell to the end of the only list of a pool, unless it stands there already.
+fn put_once(pool: &mut Pool, cell: u32)
+    requires lists { length pool.old.lists ≡ 1 }
+    requires cell { cell < pool.old.cells }
+    ensures waits { Contains (list_at pool.new.lists 0) cell }
+    ensures kept { (g : ℕ) → Contains (list_at pool.old.lists 0) g → Contains (list_at pool.new.lists 0) g }
+    ensures lists { length pool.new.lists ≡ 1 }
+    ensures cells { pool.new.cells ≡ pool.old.cells }
+{
+    if !pool.is_free(cell) {
+        return;
+    }
+    pool.push_back(0, cell);
+}
+
 impl Queue {
     /// A queue in which so many groups wait, all that there are, in ascending order.
     pub fn full(alloc: Global, count: u32) -> Result<Queue, NoMemory>
@@ -57,8 +85,7 @@ impl Queue {
         ensures group { IfSome result (λ g. g < self.old.count) }
         ensures count { self.new.count ≡ self.old.count }
     {
-        let _first = self.pool.first(0);
-        self.pool.pop_front(0)
+        take_first(&mut self.pool)
     }
 
     /// Lets a group wait, last of all, unless it waits already.
@@ -68,9 +95,7 @@ impl Queue {
         ensures kept { (g : ℕ) → Contains self.old.list g → Contains self.new.list g }
         ensures count { self.new.count ≡ self.old.count }
     {
-        if self.pool.is_free(group) {
-            self.pool.push_back(0, group);
-        }
+        put_once(&mut self.pool, group);
     }
 
     /// Says for proofs that no more groups wait than there are. It does nothing.
