@@ -1,0 +1,3 @@
+mod BlockLaws
+mod Moves
+mod PartLaws

@@ -1,0 +1,5 @@
+-- what callers of this crate read
+pub mod Parts
+-- inner words of the proofs
+pub mod Part
+pub mod Marks

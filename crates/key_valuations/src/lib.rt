@@ -1,0 +1,17 @@
+//! Valuations of one key on one side: one that has given parts, and lists of all that matter. A search goes through a key's
+//! slots by its plan and extends a list of names slot by slot. Its answers are exact in both directions.
+//!
+//! - `fits`: what one more name has to be
+//! - `choices`: which names may come next
+//! - `marks`: what the names at some places have to be
+//! - `complete`: one valuation that begins with a list
+//! - `find`: one valuation with given parts
+#![tactic(auto)]
+
+mod choices;
+mod complete;
+mod find;
+mod fits;
+mod marks;
+
+pub use find::find_valuation;
