@@ -1,5 +1,5 @@
 -- What is free is put to the end; what is not stands there.
-use Rattle.std.proofs.Common.{◌∙◌, ap, arith, ◌<◌, ◌≡◌, ◌++◌, ◌∷◌, [], ℕ, List, Contains, length, subst, sym, refl, inl, inr, get_or-set_same, length-set}
+use Rattle.std.proofs.Common.{◌∙◌, ap, arith, rules, ◌<◌, ◌≡◌, ◌++◌, ◌∷◌, [], ℕ, List, Contains, length, subst, sym, refl, inl, inr, get_or-set_same, length-set}
 use Rattle.std.proofs.lemmas.Bool.{iff_false, not-true}
 use Rattle.std.proofs.lemmas.List.Elements.{Contains-push, Contains-append_left}
 use Rattle.list_pool.specs.Pool.{list_at}

@@ -72,7 +72,7 @@ pub returns-clause-woken : goal.returns-clause-woken
 returns-clause-woken c = λ m g in_m same h.
     let book = c.args.book.now in
     let L = class_of book c.args.node in
-    let met = (c.label-_label.ensures.labelled.classes c.args.node m c.requires.node in_m).0 (sym same) in
+    let met = (c.label-label.ensures.labelled.classes c.args.node m c.requires.node in_m).0 (sym same) in
     let k = (c.first_member.ensures.class.joined m in_m).1 met in
     let at : slice_get L k.0 ≡ Some m = slice_get-get_or L k.0 m k.1 ∙ ap Some k.2 in
     let lt : k.0 < c.loop-done.done = omega (arith, k.1, c.size-count.ensures.members, c.loop-done-test.false) in
