@@ -14,6 +14,6 @@ abbrev pub shape_of : List ℕ → List ℕ → Head → GroupShape
 shape_of values cells head = record { key = head.key; values = values_at values head; rows = rows_of (drop head.first_cell cells) (head.image_count + 1) head.row_count }
 
 -- what a head tells of lies within both arrays
-pub record IsWithin (values cells : ℕ) (head : Head) : Type 0 where
-  pub values : head.first_value + head.value_count ≤ values
-  pub cells : head.first_cell + head.row_count * (head.image_count + 1) ≤ cells
+pub record IsWithin (value_end cell_end : ℕ) (head : Head) : Type 0 where
+  pub values : head.first_value + head.value_count ≤ value_end
+  pub cells : head.first_cell + head.row_count * (head.image_count + 1) ≤ cell_end

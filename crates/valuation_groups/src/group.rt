@@ -54,7 +54,8 @@ impl<'a> Group<'a> {
 
     /// A row: a name and its images. Behind the last row there is nothing.
     pub fn row(&self, row: usize) -> &'a [u32]
-        ensures { result.now ≡ row_in self.now row }
+        ensures row { result.now ≡ row_in self.now row }
+        ensures named { row < length self.now.rows → 0 < length result.now }
     {
         row_of(self.cells, self.image_count + 1, row)
     }

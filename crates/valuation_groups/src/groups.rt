@@ -2,7 +2,7 @@
 
 ghost use Rattle.std.specs.Prelude.{[], ◌∷◌, ◌++◌, ◌≡◌, ◌≢◌, ◌⊎◌, ◌<◌, ◌≤◌, ◌^◌, ℕ, All, Contains, OnOk, length};
 ghost use Rattle.std.specs.List.{concat};
-ghost use Rattle.valuation_groups.specs.Rows.{part_at, AscendByValues};
+ghost use Rattle.valuation_groups.specs.Rows.{part_at, AreOfShape, AscendByValues};
 ghost use Rattle.valuation_groups.specs.Groups.{GroupShape, group_at, listed_of, AreApart};
 ghost use Rattle.valuation_groups.specs.Filling.{group_between, rows_between};
 
@@ -53,8 +53,9 @@ fn end_of_run(rows: &ValuationRows, from: usize) -> usize
     ensures same { (k : ℕ) → from ≤ k → k < result → (part_at rows.now.parts k).values ≡ (part_at rows.now.parts from).values }
     ensures other { result < length rows.now.parts → (part_at rows.now.parts result).values ≢ (part_at rows.now.parts from).values }
 {
+    let len = rows.len();
     let mut end = from + 1;
-    while end < rows.len() && rows.values(end) == rows.values(from) {
+    while end < len && rows.values(end) == rows.values(from) {
         end += 1;
     }
     end
@@ -122,6 +123,8 @@ impl ValuationGroups {
     fn add_group(&mut self, rows: &ValuationRows, from: usize, end: usize) -> Result<(), NoMemory>
         requires some { from < end }
         requires within { end ≤ length rows.now.parts }
+        requires few { length rows.now.parts < 2 ^ 32 }
+        requires shape { AreOfShape rows.now }
         ensures { OnOk result (self.new ≡ self.old ++ group_between rows.now from end ∷ []) }
     {
         if self.heads.len() >= u32::MAX as usize {

@@ -1,6 +1,7 @@
 //! Rows of one key.
 
 ghost use Rattle.std.specs.Prelude.{[], ◌∷◌, ◌++◌, ◌≡◌, ◌<◌, ◌+◌, ◌^◌, OnErr, OnOk, length};
+ghost use Rattle.valuation_groups.specs.Cells.{parts_in_row};
 ghost use Rattle.valuation_groups.specs.Rows.{part_at, row_numbered, AreOfShape};
 
 use crate::cells::{put, row_of};
@@ -63,14 +64,16 @@ impl ValuationRows {
 
     /// How many values each row has.
     pub fn value_count(&self) -> usize
-        ensures { result ≡ self.now.value_count }
+        ensures count { result ≡ self.now.value_count }
+        ensures small { result < 2 ^ 32 }
     {
         self.value_count
     }
 
     /// How many images each row has.
     pub fn image_count(&self) -> usize
-        ensures { result ≡ self.now.image_count }
+        ensures count { result ≡ self.now.image_count }
+        ensures small { result < 2 ^ 32 }
     {
         self.image_count
     }
@@ -98,12 +101,22 @@ impl ValuationRows {
         row_of(&self.cells, self.width(), row)
     }
 
+    /// The cells of a row that is there.
+    fn cells_of(&self, row: usize) -> &[u32]
+        requires { row < length self.now.parts }
+        ensures parts { part_at self.now.parts row ≡ parts_in_row self.now.key self.now.value_count result.now }
+        ensures width { length result.now ≡ self.now.value_count + 1 + self.now.image_count }
+    {
+        row_of(&self.cells, self.width(), row)
+    }
+
     /// The values of a row.
     pub fn values(&self, row: usize) -> &[u32]
         requires { row < length self.now.parts }
         ensures { result.now ≡ (part_at self.now.parts row).values }
     {
-        &self.row(row)[..self.value_count]
+        let count = self.value_count();
+        &self.cells_of(row)[..count]
     }
 
     /// The name of a row.
@@ -111,7 +124,8 @@ impl ValuationRows {
         requires { row < length self.now.parts }
         ensures { result ≡ (part_at self.now.parts row).name }
     {
-        self.row(row)[self.value_count]
+        let place = self.value_count();
+        self.cells_of(row)[place]
     }
 
     /// The images of a row.
@@ -119,7 +133,8 @@ impl ValuationRows {
         requires { row < length self.now.parts }
         ensures { result.now ≡ (part_at self.now.parts row).images }
     {
-        &self.row(row)[self.value_count + 1..]
+        let from = self.value_count() + 1;
+        &self.cells_of(row)[from..]
     }
 
     /// Adds a row at the end. After want of memory, and where there are 2^32 - 1 rows, the rows are as before.

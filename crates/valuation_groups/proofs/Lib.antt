@@ -1,0 +1,4 @@
+mod CellLemmas
+mod RowLemmas
+mod OrderLemmas
+mod GroupLemmas
