@@ -23,7 +23,7 @@ advance_none groups book waiting = record {
   gain = inl refl;
 }
 
-grown : (old new : List Entry) → ((more : List Entry) × (new ≡ old ++ more)) → length old ≤ length new
+pub grown : (old new : List Entry) → ((more : List Entry) × (new ≡ old ++ more)) → length old ≤ length new
 grown old new b = let e = ap (λ (xs : List Entry). length xs) b.1 ∙ length-append old b.0 in omega arith
 
 pub advance_more : (groups : List GroupShape) (a b c : Classes) (u v w : List ℕ) → Advances groups a b u v → Advances groups b c v w → Advances groups a c u w

@@ -132,8 +132,6 @@ impl<'a> Setting<'a> {
         ensures joined { slice_index book.new.labels entry.a ≡ slice_index book.new.labels entry.b }
         ensures count { queue.new.count ≡ queue.old.count }
     {
-        // For the proof alone: what is a name.
-        let _names = self.graph.names();
         wake(book, &self.owners, queue, entry.a, entry.b);
         enter_step(self.graph, self.patterns, book, entry);
     }

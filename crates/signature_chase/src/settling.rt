@@ -36,9 +36,11 @@ fn meet(
 {
     law_signature();
     setting.holds();
-    let a = book.label(group.name(left));
-    let b = book.label(group.name(right));
-    if a == b {
+    let a = group.name(left);
+    let b = group.name(right);
+    let first = book.label(a);
+    let second = book.label(b);
+    if first == second {
         return;
     }
     let entry = setting.entry_of(group, left, right);

@@ -17,7 +17,7 @@ loop-place-init c = record {
 pub put_group-requires : goal.put_group-requires
 put_group-requires c = λ i h.
     let g = c.loop-place.place in
-    let within : g < length c.args.groups.now = omega (arith, c.len.ensures.length, c.loop-place-test.true) in
+    let within : g < length c.args.groups.now = omega (arith, c.len-place-end.ensures.length, c.loop-place-test.true) in
     let at : c.group.result ≡ group_at c.args.groups.now g = c.group.ensures in
     let row = subst (λ (s : GroupShape). i < length s.rows) at h in
     subst (λ (s : GroupShape). IsNamedRow (length c.loop-place.owners) (row_in s i)) (sym at) (rw c.loop-place.invariant.one_each (c.requires g i (within, row)))
@@ -48,9 +48,9 @@ loop-place-preserved c =
 pub returns : goal.returns
 returns c =
     let v = c.loop-place.invariant in
-    let long : length c.args.groups.now ≤ c.loop-place.place = omega (arith, c.len.ensures.length, c.loop-place-test.false) in
+    let long : length c.args.groups.now ≤ c.loop-place.place = omega (arith, c.len-place-end.ensures.length, c.loop-place-test.false) in
     record {
       one_each = v.one_each;
       every = λ g i m h k. v.every g i m (omega (arith, h.0)) h k;
-      only = λ m g h. let lt = v.only m g h in omega (arith, c.len.ensures.length, c.loop-place.auto.place-end);
+      only = λ m g h. let lt = v.only m g h in omega (arith, c.len-place-end.ensures.length, c.loop-place.auto.place-end);
     }

@@ -1,5 +1,5 @@
 -- Row by row.
-use Rattle.std.proofs.Common.{◌∙◌, ap, arith, ◌<◌, ◌≡◌, ◌⊎◌, ◌+◌, ℕ, List, All, Contains, length, drop, subst, sym, inl, inr}
+use Rattle.std.proofs.Common.{◌∙◌, ap, arith, ◌<◌, ◌≤◌, ◌≡◌, ◌⊎◌, ◌+◌, ℕ, List, All, Contains, length, drop, subst, sym, inl, inr}
 use Rattle.std.proofs.lemmas.Bool.{cases_lt}
 use Rattle.valuation_groups.specs.Groups.{row_in}
 use Rattle.signature_chase.specs.Owning.{PutsInto}
@@ -9,7 +9,7 @@ use Rattle.signature_chase.proofs.owning.put_group.Goals as goal
 pub put_images-requires : goal.put_images-requires
 put_images-requires c =
     let row = row_in c.args.group.now c.loop-row.row in
-    let within : c.loop-row.row < length c.args.group.now.rows = omega (arith, c.len.ensures.length, c.loop-row-test.true) in
+    let within : c.loop-row.row < length c.args.group.now.rows = omega (arith, c.len-row-end.ensures.length, c.loop-row-test.true) in
     rw (c.loop-row.invariant.count, c.images_of.ensures) (c.requires c.loop-row.row within).images
 
 pub loop-row-init : goal.loop-row-init
@@ -34,7 +34,7 @@ pub returns : goal.returns
 returns c =
     let group = c.args.group.now in
     let i = c.loop-row.row in
-    let long : length group.rows ≤ i = omega (arith, c.len.ensures.length, c.loop-row-test.false) in
+    let long : length group.rows ≤ i = omega (arith, c.len-row-end.ensures.length, c.loop-row-test.false) in
     puts_more c.args.owners.now c.loop-row.owners c.loop-row.owners c.args.place
     (λ m. (k : ℕ) × (k < i) × Contains (drop 1 (row_in group k)) m) (λ m. ⊥) (λ m. (k : ℕ) × (k < length group.rows) × Contains (drop 1 (row_in group k)) m)
     c.loop-row.invariant (puts_none c.loop-row.owners c.args.place (λ m. ⊥) (λ m h. h))

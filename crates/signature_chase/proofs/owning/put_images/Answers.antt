@@ -1,5 +1,5 @@
 -- Image by image.
-use Rattle.std.proofs.Common.{◌∙◌, ap, arith, ◌<◌, ◌≡◌, ◌⊎◌, ◌++◌, ◌∷◌, [], ℕ, List, Contains, length, get_or, take, subst, sym, inl, inr}
+use Rattle.std.proofs.Common.{◌∙◌, ap, arith, ◌<◌, ◌≡◌, ◌⊎◌, ◌+◌, ◌++◌, ◌∷◌, [], ℕ, List, Contains, length, get_or, take, subst, sym, inl, inr}
 use Rattle.std.proofs.lemmas.List.{take_more, take_all}
 use Rattle.std.proofs.lemmas.List.Elements.{Contains-push_cases, All-get_or}
 use Rattle.signature_chase.specs.Owning.{PutsInto}
