@@ -1,14 +1,14 @@
 -- Groups in their arrays, and lists with one group more.
-use Rattle.std.proofs.Common.{List, [], ◌∷◌, ◌++◌, ℕ, suc, length, get_or, take, drop, map, All, Contains, ◌≡◌, ◌≢◌, ◌<◌, ◌≤◌, ◌+◌, ◌-◌, ◌*◌, ◌⊎◌, inl, inr, refl, ap, sym, ◌∙◌, subst, arith}
+use Rattle.std.proofs.Common.{List, [], ◌∷◌, ◌++◌, ℕ, length, get_or, take, drop, map, All, Contains, ◌≡◌, ◌≢◌, ◌<◌, ◌≤◌, ◌+◌, ◌-◌, ◌*◌, ◌⊎◌, inl, inr, refl, ap, sym, ◌∙◌, subst, arith}
 use Rattle.std.specs.Prelude.{slice_range}
-use Rattle.std.specs.List.{concat, flat_map}
-use Rattle.std.proofs.lemmas.List.{length-take, length-drop, length-take-le, length-append, length-map, length_push, take-append-le, take-append-drop, take-take, drop-take, take_all, take_more, drop-append-le, drop_at, map_push, get_or_append_left, get_or_push, get_or-drop, get_or-map, get_or_default, append_assoc, append-nil, ext_get_or, take_at, drop-drop, get_or-take}
+use Rattle.std.specs.List.{concat}
+use Rattle.std.proofs.lemmas.List.{length-drop, length-take-le, length-append, length-map, length_push, take-append-le, take-append-drop, take-take, drop-take, take_all, take_more, drop-append-le, drop_at, map_push, get_or_append_left, get_or_push, get_or-drop, get_or-map, append_assoc, append-nil, ext_get_or, get_or-take}
 use Rattle.std.proofs.lemmas.List.Concat.{flat_map-append}
-use Rattle.std.proofs.lemmas.List.Elements.{All-head, All-tail, All-map, All-take, All-drop, All-push, Contains-push_cases, Contains-get_or, Contains-append_left, All-contains}
+use Rattle.std.proofs.lemmas.List.Elements.{All-head, All-tail, All-map, All-take, All-drop, All-push, Contains-push_cases, Contains-get_or, All-contains}
 use Rattle.std.proofs.lemmas.Bool.{cases_lt}
 use Rattle.chase_laws.specs.Signature.{SignatureParts}
-use Rattle.valuation_groups.specs.Cells.{row_at, rows_of}
-use Rattle.valuation_groups.specs.Rows.{KeyRows, part_at, IsOfShape, AreOfShape, AscendByValues}
+use Rattle.valuation_groups.specs.Cells.{rows_of}
+use Rattle.valuation_groups.specs.Rows.{KeyRows, part_at, IsOfShape, AreOfShape}
 use Rattle.valuation_groups.specs.Groups.{GroupShape, group_at, parts_in, parts_of_group, listed_of, AreApart}
 use Rattle.valuation_groups.specs.Heads.{values_at, shape_of, IsWithin}
 use Rattle.valuation_groups.specs.Filling.{rows_between, group_between}
@@ -34,11 +34,11 @@ shape_kept values cells more_values more_cells head h =
     let in_values = h.values in
     let in_cells = h.cells in
     let v : values_at (values ++ more_values) head ≡ values_at values head =
-      ap (take head.value_count) (drop-append-le head.first_value values more_values (omega arith))
-      ∙ take-append-le head.value_count (drop head.first_value values) more_values (omega (arith, length-drop head.first_value values)) in
+    ap (take head.value_count) (drop-append-le head.first_value values more_values (omega arith))
+    ∙ take-append-le head.value_count (drop head.first_value values) more_values (omega (arith, length-drop head.first_value values)) in
     let r : rows_of (drop head.first_cell (cells ++ more_cells)) (head.image_count + 1) head.row_count ≡ rows_of (drop head.first_cell cells) (head.image_count + 1) head.row_count =
-      ap (λ xs. rows_of xs (head.image_count + 1) head.row_count) (drop-append-le head.first_cell cells more_cells (omega arith))
-      ∙ rows_of_kept (drop head.first_cell cells) more_cells (head.image_count + 1) head.row_count (omega (arith, length-drop head.first_cell cells)) in
+    ap (λ xs. rows_of xs (head.image_count + 1) head.row_count) (drop-append-le head.first_cell cells more_cells (omega arith))
+    ∙ rows_of_kept (drop head.first_cell cells) more_cells (head.image_count + 1) head.row_count (omega (arith, length-drop head.first_cell cells)) in
     let make : List ℕ → List (List ℕ) → GroupShape = λ vs rs. record { key = head.key; values = vs; rows = rs } in
     ap (λ vs. make vs (rows_of (drop head.first_cell (cells ++ more_cells)) (head.image_count + 1) head.row_count)) v ∙ ap (make (values_at values head)) r
 
@@ -59,11 +59,11 @@ pub shape_put : (values cells new_values : List ℕ) (rows : List (List ℕ)) (h
     shape_of (values ++ new_values) (cells ++ concat rows) head ≡ (record { key = head.key; values = new_values; rows = rows })
 shape_put values cells new_values rows head fv fc count many wide =
     let v : values_at (values ++ new_values) head ≡ new_values =
-      ap (take head.value_count) (drop_at values new_values head.first_value (sym fv)) ∙ take_all head.value_count new_values (omega arith) in
+    ap (take head.value_count) (drop_at values new_values head.first_value (sym fv)) ∙ take_all head.value_count new_values (omega arith) in
     let r : rows_of (drop head.first_cell (cells ++ concat rows)) (head.image_count + 1) head.row_count ≡ rows =
-      ap (λ xs. rows_of xs (head.image_count + 1) head.row_count) (drop_at cells (concat rows) head.first_cell (sym fc))
-      ∙ ap (rows_of (concat rows) (head.image_count + 1)) (sym many)
-      ∙ rows_of-concat rows (head.image_count + 1) wide in
+    ap (λ xs. rows_of xs (head.image_count + 1) head.row_count) (drop_at cells (concat rows) head.first_cell (sym fc))
+    ∙ ap (rows_of (concat rows) (head.image_count + 1)) (sym many)
+    ∙ rows_of-concat rows (head.image_count + 1) wide in
     let make : List ℕ → List (List ℕ) → GroupShape = λ vs rs. record { key = head.key; values = vs; rows = rs } in
     ap (λ vs. make vs (rows_of (drop head.first_cell (cells ++ concat rows)) (head.image_count + 1) head.row_count)) v ∙ ap (make new_values) r
 
@@ -76,7 +76,7 @@ pub wide_between : (rows : KeyRows) (from end : ℕ) → AreOfShape rows → All
 wide_between rows from end shape =
     All-map (λ (row : List ℕ). length row ≡ rows.image_count + 1) (λ (p : SignatureParts). p.name ∷ p.images) (slice_range rows.parts from end) (λ k d h.
     let at : IsOfShape rows.key rows.value_count rows.image_count (get_or (slice_range rows.parts from end) k d) =
-      All-take (IsOfShape rows.key rows.value_count rows.image_count) (end - from) (drop from rows.parts) (All-drop (IsOfShape rows.key rows.value_count rows.image_count) from rows.parts shape) k d h in
+    All-take (IsOfShape rows.key rows.value_count rows.image_count) (end - from) (drop from rows.parts) (All-drop (IsOfShape rows.key rows.value_count rows.image_count) from rows.parts shape) k d h in
     let images = at.images in
     omega arith)
 
@@ -147,23 +147,23 @@ apart_more groups before rows from end some within fresh known border apart =
     let old : (i : ℕ) → i < length groups → group_at (groups ++ group ∷ []) i ≡ group_at groups i = get_or_append_left groups (group ∷ []) none in
     let new : (i : ℕ) → length groups ≡ i → group_at (groups ++ group ∷ []) i ≡ group = get_or_push groups group none in
     let apart_from : (i : ℕ) → i < length groups → (group_at groups i).key ≡ rows.key → (group_at groups i).values ≡ (part_at rows.parts from).values → ⊥ = λ i h is_key is_values.
-      let has : Contains groups (group_at groups i) = Contains-get_or groups i none h in
-      elim (known (group_at groups i) has) [
-        | inl first ↦ All-contains (λ (g : GroupShape). g.key ≢ rows.key) before (group_at groups i) fresh first is_key
-        | inr x ↦ border x.1.0 from x.1.1 (omega arith) (omega arith) (x.1.2 ∙ is_values)
-      ] in
+    let has : Contains groups (group_at groups i) = Contains-get_or groups i none h in
+    elim (known (group_at groups i) has) [
+      | inl first ↦ All-contains (λ (g : GroupShape). g.key ≢ rows.key) before (group_at groups i) fresh first is_key
+      | inr x ↦ border x.1.0 from x.1.1 (omega arith) (omega arith) (x.1.2 ∙ is_values)
+    ] in
     record {
       apart = λ i j hi hj same_key same_values. elim (cases_lt i (length groups)) [
         | inl li ↦ (elim (cases_lt j (length groups)) [
-            | inl lj ↦ apart.apart i j li lj (ap (λ (g : GroupShape). g.key) (sym (old i li)) ∙ same_key ∙ ap (λ (g : GroupShape). g.key) (old j lj)) (ap (λ (g : GroupShape). g.values) (sym (old i li)) ∙ same_values ∙ ap (λ (g : GroupShape). g.values) (old j lj))
-            | inr gj ↦ let e : length groups ≡ j = omega arith in
-                absurd (apart_from i li (ap (λ (g : GroupShape). g.key) (sym (old i li)) ∙ same_key ∙ ap (λ (g : GroupShape). g.key) (new j e)) (ap (λ (g : GroupShape). g.values) (sym (old i li)) ∙ same_values ∙ ap (λ (g : GroupShape). g.values) (new j e)))
-          ])
+          | inl lj ↦ apart.apart i j li lj (ap (λ (g : GroupShape). g.key) (sym (old i li)) ∙ same_key ∙ ap (λ (g : GroupShape). g.key) (old j lj)) (ap (λ (g : GroupShape). g.values) (sym (old i li)) ∙ same_values ∙ ap (λ (g : GroupShape). g.values) (old j lj))
+          | inr gj ↦ let e : length groups ≡ j = omega arith in
+              absurd (apart_from i li (ap (λ (g : GroupShape). g.key) (sym (old i li)) ∙ same_key ∙ ap (λ (g : GroupShape). g.key) (new j e)) (ap (λ (g : GroupShape). g.values) (sym (old i li)) ∙ same_values ∙ ap (λ (g : GroupShape). g.values) (new j e)))
+        ])
         | inr gi ↦ (let e : length groups ≡ i = omega arith in
             elim (cases_lt j (length groups)) [
-            | inl lj ↦ absurd (apart_from j lj (ap (λ (g : GroupShape). g.key) (sym (old j lj)) ∙ sym same_key ∙ ap (λ (g : GroupShape). g.key) (new i e)) (ap (λ (g : GroupShape). g.values) (sym (old j lj)) ∙ sym same_values ∙ ap (λ (g : GroupShape). g.values) (new i e)))
-            | inr gj ↦ omega arith
-          ])
+              | inl lj ↦ absurd (apart_from j lj (ap (λ (g : GroupShape). g.key) (sym (old j lj)) ∙ sym same_key ∙ ap (λ (g : GroupShape). g.key) (new i e)) (ap (λ (g : GroupShape). g.values) (sym (old j lj)) ∙ sym same_values ∙ ap (λ (g : GroupShape). g.values) (new i e)))
+              | inr gj ↦ omega arith
+            ])
       ];
       some = All-push (λ (g : GroupShape). 0 < length g.rows) groups group apart.some (omega (arith, length_between rows.parts from end (omega arith) within));
     }
@@ -181,9 +181,9 @@ between_more parts from row h k =
     let count : row + 1 - from ≡ row - from + 1 = omega arith in
     let at : from + (row - from) ≡ row = omega arith in
     let more : slice_range parts from (row + 1) ≡ slice_range parts from row ++ part_at parts row ∷ [] =
-      ap (λ n. take n (drop from parts)) count
-      ∙ take_more (drop from parts) (row - from) none (omega (arith, length-drop from parts))
-      ∙ ap (λ p. slice_range parts from row ++ p ∷ []) (get_or-drop from parts (row - from) none ∙ ap (part_at parts) at) in
+    ap (λ n. take n (drop from parts)) count
+    ∙ take_more (drop from parts) (row - from) none (omega (arith, length-drop from parts))
+    ∙ ap (λ p. slice_range parts from row ++ p ∷ []) (get_or-drop from parts (row - from) none ∙ ap (part_at parts) at) in
     ap (λ ps. concat (map (λ (p : SignatureParts). p.name ∷ p.images) ps)) more
     ∙ ap concat (map_push (λ (p : SignatureParts). p.name ∷ p.images) (slice_range parts from row) (part_at parts row))
     ∙ concat-push (rows_between parts from row) ((part_at parts row).name ∷ (part_at parts row).images)
@@ -205,20 +205,20 @@ put_more old now pushed longer parts from row name images h k before first secon
 -- what is read by a head
 pub group_is : (values cells : List ℕ) (heads : List Head) (place : ℕ) (head : Head) → place < length heads → head ≡ get_or heads place head → All (IsWithin (length values) (length cells)) heads →
     (let group : GroupShape = record {
-        key = head.key;
-        values = slice_range values head.first_value (head.first_value + head.value_count);
-        rows = rows_of (slice_range cells head.first_cell (head.first_cell + head.row_count * (head.image_count + 1))) (head.image_count + 1) head.row_count;
-      } in group) ≡ group_at (map (shape_of values cells) heads) place
+      key = head.key;
+      values = slice_range values head.first_value (head.first_value + head.value_count);
+      rows = rows_of (slice_range cells head.first_cell (head.first_cell + head.row_count * (head.image_count + 1))) (head.image_count + 1) head.row_count;
+    } in group) ≡ group_at (map (shape_of values cells) heads) place
 group_is values cells heads place head h is all =
     let size : ℕ = head.row_count * (head.image_count + 1) in
     let at : IsWithin (length values) (length cells) head = subst (IsWithin (length values) (length cells)) (sym is) (all place head h) in
     let in_cells = at.cells in
     let v : slice_range values head.first_value (head.first_value + head.value_count) ≡ values_at values head =
-      (let n : head.first_value + head.value_count - head.first_value ≡ head.value_count = omega arith in ap (λ k. take k (drop head.first_value values)) n) in
+    (let n : head.first_value + head.value_count - head.first_value ≡ head.value_count = omega arith in ap (λ k. take k (drop head.first_value values)) n) in
     let r : rows_of (slice_range cells head.first_cell (head.first_cell + size)) (head.image_count + 1) head.row_count ≡ rows_of (drop head.first_cell cells) (head.image_count + 1) head.row_count =
-      (let n : head.first_cell + size - head.first_cell ≡ size = omega arith in
-      ap (λ k. rows_of (take k (drop head.first_cell cells)) (head.image_count + 1) head.row_count) n
-      ∙ rows_of_front (drop head.first_cell cells) (head.image_count + 1) head.row_count size refl (omega (arith, length-drop head.first_cell cells))) in
+    (let n : head.first_cell + size - head.first_cell ≡ size = omega arith in
+    ap (λ k. rows_of (take k (drop head.first_cell cells)) (head.image_count + 1) head.row_count) n
+    ∙ rows_of_front (drop head.first_cell cells) (head.image_count + 1) head.row_count size refl (omega (arith, length-drop head.first_cell cells))) in
     let make : List ℕ → List (List ℕ) → GroupShape = λ vs rs. record { key = head.key; values = vs; rows = rs } in
     ap (λ vs. make vs (rows_of (slice_range cells head.first_cell (head.first_cell + size)) (head.image_count + 1) head.row_count)) v
     ∙ ap (make (values_at values head)) r

@@ -2,3 +2,4 @@ mod CellLemmas
 mod RowLemmas
 mod OrderLemmas
 mod GroupLemmas
+mod SharedLemmas

@@ -1,5 +1,5 @@
 -- Rows in the order of their numbers.
-use Rattle.std.proofs.Common.{List, [], ◌∷◌, ◌++◌, ℕ, length, get_or, take, drop, map, All, Ordering, Bool, true, false, ◌≡◌, ◌<◌, ◌≤◌, ◌+◌, inl, inr, refl, ap, ap₂, sym, ◌∙◌, subst, arith}
+use Rattle.std.proofs.Common.{List, [], ◌∷◌, ◌++◌, ℕ, length, get_or, All, AllPairs, true, false, ◌≡◌, ◌<◌, ◌≤◌, ◌+◌, inl, inr, refl, ap, ap₂, sym, ◌∙◌, arith}
 use Rattle.std.proofs.lemmas.Bool.{cases_lt, cases_order, le-ltb, lt-ltb, eq-eqb, ne_eqb}
 use Rattle.std.proofs.lemmas.Cmp.{nat_list_cmp_total}
 use Rattle.std.proofs.lemmas.List.Sorted.{ranks_by, sorted_far}
@@ -7,7 +7,7 @@ use Rattle.std.specs.Ordering.{nat_cmp, is_lt, ordering_then}
 use Rattle.std.specs.declared.cmp.Ordering.TheVariants.{Less, Equal, Greater}
 use Rattle.std.specs.Cmp.Lexicographic.{slice_cmp}
 use Rattle.chase_laws.specs.Signature.{SignatureParts}
-use Rattle.valuation_groups.specs.Rows.{part_at, AscendByValues}
+use Rattle.valuation_groups.specs.Rows.{part_at, cells_in, Precedes, AscendByValues}
 
 pub below : (x y : ℕ) → x < y → nat_cmp x y ≡ Less
 below x y h = rw (lt-ltb x y h) refl
@@ -55,3 +55,47 @@ next_border parts from end up some before same other i j i_end end_j j_in e = el
       let back : (part_at parts j).values ≡ (part_at parts from).values = sym e ∙ same i ge i_end in
       other (omega arith) (alike_between parts up from end j (omega arith) end_j j_in back)
 ]
+
+-- where the list behind equally long fronts comes first, the front does not come behind
+front_not_over : (a b x y : List ℕ) → length a ≡ length b → slice_cmp nat_cmp (a ++ x) (b ++ y) ≡ Less → is_lt (slice_cmp nat_cmp b a) ≡ false
+front_not_over [] [] x y long h = refl
+front_not_over [] (n ∷ b) x y long h = absurd (omega arith)
+front_not_over (m ∷ a) [] x y long h = absurd (omega arith)
+front_not_over (m ∷ a) (n ∷ b) x y long h = elim (cases_order m n) [
+  | inl same ↦
+      let e : slice_cmp nat_cmp (a ++ x) (b ++ y) ≡ Less = ap (λ o. ordering_then o (slice_cmp nat_cmp (a ++ x) (b ++ y))) (sym (level m n same)) ∙ h in
+      ap (λ o. is_lt (ordering_then o (slice_cmp nat_cmp b a))) (level n m (sym same)) ∙ front_not_over a b x y (omega arith) e
+  | inr (inl lt) ↦ ap (λ o. is_lt (ordering_then o (slice_cmp nat_cmp b a))) (over n m lt)
+  | inr (inr gt) ↦ absurd (let e : Greater ≡ Less = ap (λ o. ordering_then o (slice_cmp nat_cmp (a ++ x) (b ++ y))) (sym (over m n gt)) ∙ h in cc)
+]
+
+-- behind equal fronts the first number does not fall
+next_not_over : (a x y : List ℕ) (m n : ℕ) → slice_cmp nat_cmp (a ++ m ∷ x) (a ++ n ∷ y) ≡ Less → m ≤ n
+next_not_over [] x y m n h = elim (cases_order m n) [
+  | inl same ↦ omega arith
+  | inr (inl lt) ↦ omega arith
+  | inr (inr gt) ↦ absurd (let e : Greater ≡ Less = ap (λ o. ordering_then o (slice_cmp nat_cmp x y)) (sym (over m n gt)) ∙ h in cc)
+]
+next_not_over (k ∷ a) x y m n h = next_not_over a x y m n (ap (λ o. ordering_then o (slice_cmp nat_cmp (a ++ m ∷ x) (a ++ n ∷ y))) (sym (level k k refl)) ∙ h)
+
+-- of two rows in order the values do not fall, and of equal values the names do not
+pub values_not_over : (p q : SignatureParts) → length p.values ≡ length q.values → Precedes p q → is_lt (slice_cmp nat_cmp q.values p.values) ≡ false
+values_not_over p q long h = front_not_over p.values q.values (p.name ∷ p.images) (q.name ∷ q.images) long h
+
+pub names_not_over : (p q : SignatureParts) → p.values ≡ q.values → Precedes p q → p.name ≤ q.name
+names_not_over p q same h = next_not_over q.values p.images q.images p.name q.name (ap (λ vs. slice_cmp nat_cmp (vs ++ p.name ∷ p.images) (cells_in q)) (sym same) ∙ h)
+
+-- a row does not precede itself
+not_itself : (xs : List ℕ) → slice_cmp nat_cmp xs xs ≡ Less → ⊥
+not_itself [] h = cc
+not_itself (x ∷ xs) h = not_itself xs (ap (λ o. ordering_then o (slice_cmp nat_cmp xs xs)) (sym (level x x refl)) ∙ h)
+
+pub different : (p q : SignatureParts) → Precedes p q → p ≡ q → ⊥
+different p q h e = not_itself (cells_in q) (ap (λ (r : SignatureParts). slice_cmp nat_cmp (cells_in r) (cells_in q)) (sym e) ∙ h)
+
+-- rows in order ascend by their values
+pub ascend_from_rising : (parts : List SignatureParts) (n : ℕ) → All (λ p. length p.values ≡ n) parts → AllPairs Precedes parts → AscendByValues parts
+ascend_from_rising parts n long rising k d from in_k =
+    let p = get_or parts k d in
+    let q = get_or parts (k + 1) d in
+    values_not_over p q (long k d (omega arith) ∙ sym (long (k + 1) d in_k)) (rising k (k + 1) d (omega arith) in_k)

@@ -1,13 +1,12 @@
 -- The parts in an array.
-use Rattle.std.proofs.Common.{List, [], ◌∷◌, ◌++◌, ℕ, suc, length, get_or, take, drop, map, All, ◌≡◌, ◌<◌, ◌≤◌, ◌+◌, ◌*◌, inl, inr, refl, ap, sym, ◌∙◌, subst, arith, add-one, length-append}
+use Rattle.std.proofs.Common.{List, [], ◌∷◌, ◌++◌, ℕ, length, get_or, take, drop, map, All, ◌≡◌, ◌<◌, ◌+◌, ◌*◌, inl, inr, refl, ap, sym, ◌∙◌, subst, arith, add-one, length-append}
 use Rattle.std.proofs.lemmas.List.{length-take-le, length-drop, take-append-drop, get_or-map, get_or_past, length-map, take_at, drop_at, get_or_default, map-append}
-use Rattle.std.proofs.lemmas.List.Elements.{All-from_get_or}
 use Rattle.std.proofs.lemmas.Bool.{cases_lt}
 use Rattle.std.proofs.Common.{drop-cons}
 use Rattle.chase_laws.specs.Signature.{SignatureParts}
 use Rattle.valuation_groups.specs.Cells.{row_at, rows_of, parts_in_row}
 use Rattle.valuation_groups.specs.Rows.{part_at, cells_in, row_numbered, IsOfShape}
-use Rattle.valuation_groups.proofs.CellLemmas.{length-rows_of, get_or-rows_of, length-row_at, row_of_any, row_at_kept, rows_of-append, rows_of-push}
+use Rattle.valuation_groups.proofs.CellLemmas.{length-rows_of, get_or-rows_of, length-row_at, row_of_any, rows_of-append, rows_of-push}
 
 -- the parts that the cells hold
 abbrev pub parts_of_cells : ℕ → ℕ → List ℕ → ℕ → ℕ → List SignatureParts

@@ -1,8 +1,7 @@
 -- How rows and groups lie in memory: this project's own.
-use Rattle.std.specs.Prelude.{List, ℕ, All, map, length, take, drop, slice_index, ◌≡◌, ◌+◌, ◌*◌, ◌<◌, ◌≤◌, ◌^◌}
+use Rattle.std.specs.Prelude.{List, ℕ, map, take, drop, slice_index, ◌+◌, ◌*◌}
 use Rattle.std.specs.List.{range_with_len}
 use Rattle.chase_laws.specs.Signature.{SignatureParts}
-use Rattle.valuation_groups.specs.Rows.{KeyRows}
 
 -- a row of cells that is so wide, by its number
 abbrev pub row_at : List ℕ → ℕ → ℕ → List ℕ

@@ -1,6 +1,5 @@
 -- How groups lie in memory: this project's own.
-use Rattle.std.specs.Prelude.{List, ℕ, All, map, length, take, drop, ◌≡◌, ◌+◌, ◌*◌, ◌<◌, ◌≤◌, ◌^◌}
-use Rattle.chase_laws.specs.Signature.{SignatureParts}
+use Rattle.std.specs.Prelude.{List, ℕ, take, drop, ◌+◌, ◌*◌, ◌≤◌}
 use Rattle.valuation_groups.specs.Groups.{GroupShape}
 use Rattle.valuation_groups.specs.Cells.{rows_of}
 use Rattle.valuation_groups.specs.declared.groups.Head.{Head}

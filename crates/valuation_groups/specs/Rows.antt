@@ -1,8 +1,8 @@
 -- Rows of one key as contracts see them: this project's own.
-use Rattle.std.specs.Prelude.{List, [], ◌∷◌, ◌++◌, ℕ, All, Contains, AllPairs, length, map, slice_index_or, ◌≡◌, ◌≢◌}
+use Rattle.std.specs.Prelude.{Bool, nat_eq, List, [], ◌∷◌, ◌++◌, ℕ, All, Contains, AllPairs, length, map, slice_index_or, ◌≡◌, ◌≢◌}
 use Rattle.std.specs.List.Sorted.{IsSortedByKey}
 use Rattle.std.specs.Ordering.{nat_cmp}
-use Rattle.std.specs.Cmp.Lexicographic.{slice_cmp}
+use Rattle.std.specs.Cmp.Lexicographic.{slice_cmp, pointwise}
 use Rattle.std.specs.declared.cmp.Ordering.TheVariants.{Less}
 use Rattle.chase_laws.specs.Signature.{SignatureParts}
 
@@ -24,6 +24,10 @@ cells_in p = p.values ++ p.name ∷ p.images
 -- the row of a number as it stands in memory; behind the last there is nothing
 abbrev pub row_numbered : List SignatureParts → ℕ → List ℕ
 row_numbered parts row = slice_index_or (map cells_in parts) row []
+
+-- whether two numbers have the same row
+abbrev pub have_equal_rows : List SignatureParts → ℕ → ℕ → Bool
+have_equal_rows parts m n = pointwise nat_eq (row_numbered parts m) (row_numbered parts n)
 
 -- the parts are those of a key, with so many values and so many images
 pub record IsOfShape (key' value_count' image_count' : ℕ) (p : SignatureParts) : Type 0 where

@@ -1,4 +1,4 @@
-use Rattle.std.proofs.Common.{List, ℕ, ap, sym, ◌∙◌, ◌+◌, ◌<◌, ◌≡◌, length, arith}
+use Rattle.std.proofs.Common.{List, ℕ, ap, sym, ◌∙◌, ◌+◌, ◌<◌, length, arith}
 use Rattle.valuation_groups.specs.Groups.{GroupShape, row_in}
 use Rattle.valuation_groups.proofs.CellLemmas.{length-rows_of, length-row_at, row_of_any}
 use Rattle.valuation_groups.proofs.group.Group.row.Goals as goal

@@ -10,11 +10,12 @@ invariant_of-self-in-Some c =
     let o = c.other.inside in
     let same_v : o.value_count ≡ r.value_count = ap (λ (v : KeyRows). v.value_count) c.other.view_is ∙ c.requires.values ∙ sym (ap (λ (v : KeyRows). v.value_count) c.self.view_is) in
     let same_i : o.image_count ≡ r.image_count = ap (λ (v : KeyRows). v.image_count) c.other.view_is ∙ c.requires.images ∙ sym (ap (λ (v : KeyRows). v.image_count) c.self.view_is) in
-    let items = c.in_ok-extend_from_slice-in-Some.ensures.items ∙ ap (λ xs. r.cells.items ++ xs) c.deref.ensures.value in
-    (ap (λ (xs : List ℕ). length xs) items
-    ∙ length_of_both r.cells.items o.cells.items r.count o.count r.value_count r.image_count o.value_count o.image_count c.self.invariant.0 c.other.invariant.0 same_v same_i
-    ∙ ap (λ n. n * (r.value_count + 1 + r.image_count)) (sym c.in-Some.ensures.1),
-      c.self.invariant.1)
+    let items = c.in_ok-extend_from_slice-in-Some.ensures.items ∙ ap (λ xs. r.cells.items ++ xs) c.deref.ensures.value in (
+      ap (λ (xs : List ℕ). length xs) items
+          ∙ length_of_both r.cells.items o.cells.items r.count o.count r.value_count r.image_count o.value_count o.image_count c.self.invariant.0 c.other.invariant.0 same_v same_i
+          ∙ ap (λ n. n * (r.value_count + 1 + r.image_count)) (sym c.in-Some.ensures.1),
+      c.self.invariant.1,
+    )
 
 pub returns-clause-ok : goal.returns-clause-ok
 returns-clause-ok c =

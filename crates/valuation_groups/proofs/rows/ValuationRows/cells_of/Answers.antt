@@ -1,4 +1,4 @@
-use Rattle.std.proofs.Common.{ℕ, List, ap, sym, ◌∙◌, ◌+◌, ◌<◌, ◌≡◌, length, arith}
+use Rattle.std.proofs.Common.{ℕ, List, ap, sym, ◌∙◌, ◌+◌, ◌<◌, length, arith}
 use Rattle.valuation_groups.specs.Cells.{row_at, parts_in_row}
 use Rattle.valuation_groups.specs.Rows.{KeyRows, part_at}
 use Rattle.valuation_groups.proofs.CellLemmas.{length-row_at}
