@@ -40,6 +40,9 @@ module _ (Q : Shape) (R : Route) (facts : PatternFacts Q) (plan : IsPlanOf Q R) 
   there_again : (k : ℕ) → k < length Q.slots → slice_index R.place (slice_index R.order k) ≡ k
   there_again k h = let n = plan.order.one_each in plan.places.place_of k (omega arith)
 
+  pub place_at : (k : ℕ) → k < length Q.slots → slice_index R.place (slice_index R.order k) ≡ k
+  place_at k h = there_again k h
+
   some_slot : 0 < length Q.slots
   some_slot = slice_get_within Q.slots 0 (slot.Entity facts.first.0) facts.first.1
 

@@ -3,3 +3,5 @@ pub mod Parts
 -- inner words of the proofs
 pub mod Part
 pub mod Marks
+pub mod Counts
+pub mod Listing

@@ -66,7 +66,10 @@ pub(crate) fn only_one(slot: Slot, mark: Option<u32>) -> Option<[u32; 1]>
 {
     match slot {
         Slot::Fixed(c) => Some([c]),
-        Slot::Entity(_) | Slot::Value => mark.map(|k| [k]),
+        Slot::Entity(_) | Slot::Value => match mark {
+            Some(k) => Some([k]),
+            None => None,
+        },
         Slot::Any(_) | Slot::Folded => None,
     }
 }

@@ -6,6 +6,7 @@ ghost use Rattle.key_valuations.specs.Marks.{IsMarkedPart, IsCompletedBy};
 
 use crate::choices::{choices, only_one};
 use crate::fits::goes_on_marked;
+use crate::marks::mark_of;
 use chase_laws::Places;
 use key_plan::Plan;
 use typed_graph::Graph;
@@ -32,10 +33,13 @@ pub(crate) fn complete(
     }
     let slot = plan.slot(s);
     let block = plan.block(s);
-    let only = only_one(slot, marks[s]);
+    let mark = mark_of(marks, s);
+    let only = only_one(slot, mark);
     let choice = choices(graph, block, &only, places);
-    for m in choice.names {
-        if goes_on_marked(graph, plan, marks, block, choice.place, slot, places, *m) {
+    let known = choice.place;
+    let names = choice.names;
+    for m in names {
+        if goes_on_marked(graph, plan, marks, block, known, slot, places, *m) {
             places.push(*m);
             if complete(graph, plan, marks, places) {
                 return true;

@@ -67,6 +67,8 @@ pub fn find_valuation(
     ensures found { IfSome result (λ v. HasParts graph.now pattern.now name values.now images.now v) }
     ensures none { IfNone result ((v : List ℕ) → ¬ (HasParts graph.now pattern.now name values.now images.now v)) }
 {
+    // For the proof alone: the pattern is valid.
+    let _ = pattern.slots();
     let marks = marks_of(pattern, plan, values, images)?;
     let mut places = Places::empty();
     if !begin(graph, plan, &marks, name, &mut places) {

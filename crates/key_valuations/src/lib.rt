@@ -6,12 +6,19 @@
 //! - `marks`: what the names at some places have to be
 //! - `complete`: one valuation that begins with a list
 //! - `find`: one valuation with given parts
+//! - `parts`: the parts of a valuation as a row
+//! - `extend_all`: all choices at the slots behind a list
+//! - `list`: the valuations of all keys whose values another name has, too
 #![tactic(auto)]
 
 mod choices;
 mod complete;
+mod extend_all;
 mod find;
 mod fits;
+mod list;
 mod marks;
+mod parts;
 
+pub use list::list_valuations;
 pub use find::find_valuation;

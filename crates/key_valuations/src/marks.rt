@@ -1,10 +1,10 @@
 //! Marks: what the names at some places of a plan have to be.
 
-ghost use Rattle.std.specs.Prelude.{◌≡◌, ◌<◌, ◌≤◌, ◌↔◌, ℕ, IsTrue, IfSome, IfNone, List, length, slice_get, slice_index};
+ghost use Rattle.std.specs.Prelude.{◌≡◌, ◌<◌, ◌≤◌, ◌↔◌, ℕ, IsTrue, IfSome, IfNone, List, None, Some, length, slice_get, slice_index};
 ghost use Rattle.chase_laws.specs.Graph.{NumberedGraph, IsLiteral};
 ghost use Rattle.chase_laws.specs.Valuation.{FitsSlot};
 ghost use Rattle.key_plan.specs.Route.{IsPlanOf};
-ghost use Rattle.key_valuations.specs.Marks.{IsMarked, IsNextMark, IsUsedUp, AreMarksOf, HasGiven};
+ghost use Rattle.key_valuations.specs.Marks.{mark_at, IsMarked, IsNextMark, IsUsedUp, AreMarksOf, HasGiven};
 
 use chase_laws::{Pattern, Slot};
 use key_plan::Plan;
@@ -32,40 +32,66 @@ pub(crate) fn has_mark(graph: &Graph, slot: Slot, mark: Option<u32>, n: u32) -> 
     }
 }
 
-/// Values and images in the order of a pattern's slots, of which the first belong to slots that were seen.
+/// The slot of a pattern at a place.
+pub(crate) fn slot_at(pattern: &Pattern, s: usize) -> Slot
+    requires { s < length pattern.now.slots }
+    ensures { slice_get pattern.now.slots s ≡ Some result }
+{
+    pattern.slots()[s]
+}
+
+/// No mark for any place.
+pub(crate) fn no_marks() -> [Option<u32>; 16]
+    ensures none { (place : ℕ) → mark_at result place ≡ None }
+    ensures long { length result ≡ 16 }
+{
+    [None; 16]
+}
+
+/// The mark that is given for a place, if one is.
+pub(crate) fn mark_of(marks: &[Option<u32>], place: usize) -> Option<u32>
+    requires { place < length marks.now }
+    ensures { result ≡ mark_at marks.now place }
+{
+    marks[place]
+}
+
+/// The mark at a slot, and the values and images that are given for the slots behind it.
 #[derive(Clone, Copy)]
-struct Given<'a> {
+struct Next<'a> {
+    mark: Option<u32>,
     values: &'a [u32],
     images: &'a [u32],
 }
 
-/// The mark at a slot, and what is given for the slots behind it.
-#[derive(Clone, Copy)]
-struct Next<'a> {
-    mark: Option<u32>,
-    rest: Given<'a>,
-}
-
-/// The mark at slot `s` by what is given for it and those behind it. None where too little is given.
-fn next_mark<'a>(slot: Slot, s: usize, given: Given<'a>) -> Option<Next<'a>>
-    ensures some { IfSome result (λ next. IsNextMark slot s given.values.now given.images.now next.mark next.rest.values.now next.rest.images.now) }
-    ensures none { IfNone result (IsUsedUp slot s given.values.now given.images.now) }
+/// The mark at slot `s`, by the values and images that are given for it and those behind it. None where there are too few.
+fn next_mark<'a>(slot: Slot, s: usize, values: &'a [u32], images: &'a [u32]) -> Option<Next<'a>>
+    ensures some { IfSome result (λ next. IsNextMark slot s values.now images.now next.mark next.values.now next.images.now) }
+    ensures none { IfNone result (IsUsedUp slot s values.now images.now) }
 {
-    let mut rest = given;
-    let mark = match slot {
-        Slot::Value | Slot::Folded => {
-            let (first, others) = given.values.split_first()?;
-            rest.values = others;
-            Some(*first)
-        }
-        Slot::Entity(_) if s != 0 => {
-            let (first, others) = given.images.split_first()?;
-            rest.images = others;
-            Some(*first)
-        }
-        Slot::Entity(_) | Slot::Any(_) | Slot::Fixed(_) => None,
-    };
-    Some(Next { mark, rest })
+    match slot {
+        Slot::Value | Slot::Folded => match values {
+            [first, rest @ ..] => Some(Next {
+                mark: Some(*first),
+                values: rest,
+                images,
+            }),
+            [] => None,
+        },
+        Slot::Entity(_) if s != 0 => match images {
+            [first, rest @ ..] => Some(Next {
+                mark: Some(*first),
+                values,
+                images: rest,
+            }),
+            [] => None,
+        },
+        Slot::Entity(_) | Slot::Any(_) | Slot::Fixed(_) => Some(Next {
+            mark: None,
+            values,
+            images,
+        }),
+    }
 }
 
 /// The marks, by places of the plan, that exactly the valuations with these values and images have. None where too few or too
@@ -81,17 +107,24 @@ pub(crate) fn marks_of(
     ensures some { IfSome result (λ marks. AreMarksOf pattern.now plan.now.place values.now images.now marks) }
     ensures none { IfNone result ((G : NumberedGraph) (v : List ℕ) → ¬ (HasGiven G pattern.now values.now images.now v)) }
 {
-    let slots = pattern.slots();
+    let count = pattern.slots().len();
     let mut marks = [None; 16];
-    let mut given = Given { values, images };
-    for s in 0..slots.len() {
-        let next = next_mark(slots[s], s, given)?;
+    let mut values_left = values;
+    let mut images_left = images;
+    for s in 0..count {
+        let slot = slot_at(pattern, s);
+        let Some(next) = next_mark(slot, s, values_left, images_left) else {
+            return None;
+        };
         marks[plan.place(s)] = next.mark;
-        given = next.rest;
+        values_left = next.values;
+        images_left = next.images;
     }
-    if given.values.is_empty() && given.images.is_empty() {
-        Some(marks)
-    } else {
-        None
+    if !values_left.is_empty() {
+        return None;
     }
+    if !images_left.is_empty() {
+        return None;
+    }
+    Some(marks)
 }

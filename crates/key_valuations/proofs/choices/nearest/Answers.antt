@@ -14,3 +14,9 @@ loop-place-preserved c = elim c.if-edge.branch [
   | then-edge+else-other-names w ↦ rw (w.names-is, w.chosen-is) c.loop-place.invariant
   | else-edge w ↦ rw (w.names-is, w.chosen-is) c.loop-place.invariant
 ]
+
+pub loop-place-init : goal.loop-place-init
+loop-place-init c = record {
+  covers = λ m holds. (c.reach-names.ensures m).1 (holds 0 _ c.requires.some);
+  holds = λ m found d in_block. subst (EdgeHolds c.args.graph.now (c.args.places.now ++ m ∷ [])) (get_or_default c.args.block.now 0 _ d in_block) ((c.reach-names.ensures m).0 found);
+}

@@ -1,5 +1,6 @@
 use Rattle.std.proofs.Common.{ℕ, Contains}
-use Rattle.key_valuations.specs.Part.{Covers, HoldsAt}
+use Rattle.key_valuations.specs.Part.{HoldsAt}
+use Rattle.key_valuations.specs.Marks.{Covers}
 use Rattle.key_valuations.proofs.choices.nearest.Given as goal
 
 abbrev pub invariant-loop-place : goal.invariant-loop-place
