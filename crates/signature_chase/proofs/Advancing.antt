@@ -72,7 +72,7 @@ advance_entered groups old new waiting waiting' owners from to e owned named mad
 
 -- ---- groups
 
-labels_same : (labels labels' xs : List ℕ) → ((m : ℕ) → Contains xs m → slice_index labels' m ≡ slice_index labels m) → labels_of labels' xs ≡ labels_of labels xs
+pub labels_same : (labels labels' xs : List ℕ) → ((m : ℕ) → Contains xs m → slice_index labels' m ≡ slice_index labels m) → labels_of labels' xs ≡ labels_of labels xs
 labels_same labels labels' [] same = refl
 labels_same labels labels' (x ∷ xs) same = ap₂ (λ l ls. l ∷ ls) (same x (0, omega arith, refl)) (labels_same labels labels' xs (λ m h. same m (suc h.0, omega (arith, h.1), h.2)))
 

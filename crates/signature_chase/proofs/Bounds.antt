@@ -12,12 +12,12 @@ use Rattle.class_book.specs.Classes.{EndsAreNodes}
 pub journal_le : (labels : List ℕ) (H : List Entry) → IsLean H → EndsAreNodes labels H → length H ≤ length labels
 journal_le labels H lean ends = elim (cases_lt 0 (length labels)) [
   | inl some ↦ (let b = lean_bound H lean (length labels) some ends in omega arith)
-  | inr none ↦ empty H ends
+  | inr none ↦ empty H none ends
 ]
   where
-    empty : (J : List Entry) → EndsAreNodes labels J → length J ≤ length labels
-    empty [] e = omega arith
-    empty (x ∷ J) e = let h = All-head (λ (y : Entry). (y.a < length labels) × (y.b < length labels)) x J e in let k = h.0 in absurd (omega arith)
+    empty : (rest : List Entry) → length labels ≤ 0 → EndsAreNodes labels rest → length rest ≤ length labels
+    empty [] none e = omega arith
+    empty (x ∷ rest) none e = let h = All-head (λ (y : Entry). (y.a < length labels) × (y.b < length labels)) x rest e in let k = h.0 in absurd (omega arith)
 
 -- fewer names are apart, or as few, and fewer groups wait
 less : (a b G q q' : ℕ) → a ≤ b → (q' < q) ⊎ ((a < b) × (q' ≤ G)) → a * (G + 1) + q' < b * (G + 1) + q

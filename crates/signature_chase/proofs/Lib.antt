@@ -8,3 +8,4 @@ mod Named
 mod Puts
 mod Queues
 mod Refining
+mod Sides

@@ -16,12 +16,9 @@ use Rattle.signature_chase.proofs.Named.{first_named, images_named, length-image
 -- ---- lists that are put together of pieces
 
 in_flat : {X A : Type 0} (f : X → List A) (xs : List X) (x : X) (a : A) → Contains xs x → Contains (f x) a → Contains (flat_map f xs) a
-in_flat {X} {A} f [] x a h k = absurd (omega (arith, h.1))
-in_flat {X} {A} f (y ∷ ys) x a h k = go h.0 h.1 h.2
-  where
-    go : (i : ℕ) → i < length (y ∷ ys) → get_or (y ∷ ys) i x ≡ x → Contains (f y ++ flat_map f ys) a
-    go zero lt e = Contains-append_left (f y) (flat_map f ys) a (subst (λ z. Contains (f z) a) (sym e) k)
-    go (suc i) lt e = Contains-append_right (f y) (flat_map f ys) a (in_flat f ys x a (i, omega arith, e) k)
+in_flat f [] x a h k = absurd (omega (arith, h.1))
+in_flat f (y ∷ ys) x a (zero, lt, e) k = Contains-append_left (f y) (flat_map f ys) a (subst (λ z. Contains (f z) a) (sym e) k)
+in_flat f (y ∷ ys) x a (suc i, lt, e) k = Contains-append_right (f y) (flat_map f ys) a (in_flat f ys x a (i, omega arith, e) k)
 
 from_flat : {X A : Type 0} (f : X → List A) (xs : List X) (a : A) → Contains (flat_map f xs) a → (i : ℕ) × (i < length xs) × ((d : X) → Contains (f (get_or xs i d)) a)
 from_flat f [] a h = absurd (omega (arith, h.1))

@@ -1,6 +1,7 @@
 -- One look at a group.
-use Rattle.std.proofs.Common.{List, [], ◌∷◌, ℕ, All, Contains, map, length, drop, ◌≡◌, ◌<◌, ◌↔◌, refl, sym, ◌∙◌, ap, ap₂, subst, arith}
+use Rattle.std.proofs.Common.{List, [], ◌∷◌, ℕ, All, Contains, map, length, drop, ◌≡◌, ◌<◌, ◌+◌, ◌↔◌, inl, inr, refl, sym, ◌∙◌, ap, ap₂, subst, arith}
 use Rattle.std.specs.Prelude.{slice_index}
+use Rattle.std.proofs.lemmas.Bool.{cases_lt}
 use Rattle.std.proofs.lemmas.List.Elements.{All-head, All-tail}
 use Rattle.chase_laws.specs.Shape.{Shape}
 use Rattle.chase_laws.specs.Graph.{NumberedGraph}
@@ -35,11 +36,11 @@ coarser_labels labels labels' coarser (x ∷ xs) (y ∷ ys) hx hy e =
     ap₂ (λ l ls. l ∷ ls) (coarser x y (All-head (λ m. m < length labels) x xs hx) (All-head (λ m. m < length labels) y ys hy) first)
     (coarser_labels labels labels' coarser xs ys (All-tail (λ m. m < length labels) x xs hx) (All-tail (λ m. m < length labels) y ys hy) others)
   where
-    heads : (a b : ℕ) (as bs : List ℕ) → a ∷ as ≡ b ∷ bs → a ≡ b
-    heads a b as bs h = cc
+    heads : (a b : ℕ) (ps qs : List ℕ) → a ∷ ps ≡ b ∷ qs → a ≡ b
+    heads a b ps qs h = cc
 
-    tails : (a b : ℕ) (as bs : List ℕ) → a ∷ as ≡ b ∷ bs → as ≡ bs
-    tails a b as bs h = cc
+    tails : (a b : ℕ) (ps qs : List ℕ) → a ∷ ps ≡ b ∷ qs → ps ≡ qs
+    tails a b ps qs h = cc
 
 -- where each row has the label of its leader, the group is settled, unless it waits again
 pub look_settles : (groups : List GroupShape) (old new : Classes) (waiting waiting' : List ℕ) (g : ℕ) (leaders : List ℕ) → Advances groups old new waiting waiting' → g < length groups →
@@ -67,3 +68,16 @@ leader_same old new group leaders coarser are wide named i h =
     let in_l : l < length group.rows = x.rows i h in
     let one = (leaders_whole old group (length (drop 1 (row_in group i))) leaders x l i in_l h (wide l i in_l h) refl).0 (x.own i h) in
     coarser_labels old new coarser (drop 1 (row_in group l)) (drop 1 (row_in group i)) (named l in_l).images (named i h).images one
+
+-- one row more has the label of its leader
+pub met_more : (old new : Classes) (groups : List GroupShape) (waiting waiting' : List ℕ) → Advances groups old new waiting waiting' → (group : GroupShape) (leaders : List ℕ) (row : ℕ) →
+    row < length group.rows → ((i : ℕ) → i < length group.rows → slice_index leaders i < length group.rows) → ((i : ℕ) → i < length group.rows → IsNamedRow (length old.labels) (row_in group i)) →
+    ((k : ℕ) → k < row → name_label old.labels (row_in group (slice_index leaders k)) ≡ name_label old.labels (row_in group k)) →
+    name_label new.labels (row_in group (slice_index leaders row)) ≡ name_label new.labels (row_in group row) →
+    (k : ℕ) → k < row + 1 → name_label new.labels (row_in group (slice_index leaders k)) ≡ name_label new.labels (row_in group k)
+met_more old new groups waiting waiting' x group leaders row in_row rows named before here k h = elim (cases_lt k row) [
+  | inl lt ↦
+      (let in_k : k < length group.rows = omega arith in
+      x.coarser (slice_index (row_in group (slice_index leaders k)) 0) (slice_index (row_in group k) 0) (named (slice_index leaders k) (rows k in_k)).name (named k in_k).name (before k lt))
+  | inr ge ↦ (let e : row ≡ k = omega arith in subst (λ j. name_label new.labels (row_in group (slice_index leaders j)) ≡ name_label new.labels (row_in group j)) e here)
+]

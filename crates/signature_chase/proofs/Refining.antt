@@ -10,20 +10,19 @@ use Rattle.signature_chase.specs.Settled.{image_labels}
 use Rattle.signature_chase.specs.Leaders.{Keyed, keyed_at, SameKey, AreKeyed, AreLed, AreLeaders}
 use Rattle.signature_chase.proofs.Leading.{same_trans}
 
+zero_at : (n i z : ℕ) → i < n → get_or (replicate n z) i 0 ≡ z
+zero_at n i z h = get_or-replicate n i z 0 h
+
 -- at first row 0 leads all
 pub leaders_none : (labels : List ℕ) (group : GroupShape) → AreLeaders labels group 0 (replicate (length group.rows) 0)
-leaders_none labels group = record {
-  one_each = length-replicate n 0;
-  rows = λ i h. rw (zero_at i h) (omega arith);
-  own = λ i h. let first : 0 < n = omega arith in ap (λ k. get_or (replicate n 0) k 0) (zero_at i h) ∙ zero_at 0 first ∙ sym (zero_at i h);
-  equal = λ i j hi hj. ((λ e. refl), (λ e. zero_at i hi ∙ sym (zero_at j hj)));
-}
-  where
-    n : ℕ
-    n = length group.rows
-
-    zero_at : (i : ℕ) → i < n → get_or (replicate n 0) i 0 ≡ 0
-    zero_at i h = get_or-replicate n i 0 0 h
+leaders_none labels group =
+    let n = length group.rows in
+    record {
+      one_each = length-replicate n 0;
+      rows = λ i h. rw (zero_at n i 0 h) (omega arith);
+      own = λ i h. let first : 0 < n = omega arith in let zeros : List ℕ = replicate n 0 in ap (λ k. get_or zeros k 0) (zero_at n i 0 h) ∙ zero_at n 0 0 first ∙ sym (zero_at n i 0 h);
+      equal = λ i j hi hj. ((λ e. refl), (λ e. zero_at n i 0 hi ∙ sym (zero_at n j 0 hj)));
+    }
 
 -- the keyed rows, sorted
 module _ (labels : List ℕ) (group : GroupShape) (place : ℕ) (leaders : List ℕ) (keyed sorted : List Keyed)

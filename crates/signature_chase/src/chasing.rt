@@ -54,6 +54,30 @@ fn settle_all(
     Ok(())
 }
 
+/// The book of the whole chase: the entries that are given, and then what is found.
+fn settled_book(
+    alloc: Global,
+    graph: &Graph,
+    patterns: &[Pattern],
+    groups: &ValuationGroups,
+    given: &[Entry],
+) -> Result<Book, NoMemory>
+    requires listed { ListsShared graph.now patterns.now (listed_of groups.now) }
+    requires derivation { IsDerivation graph.now patterns.now given.now }
+    requires lean { IsLean given.now }
+    ensures derived { IfOk result (IsDerived graph.now patterns.now) }
+    ensures begins { IfOk result (λ b. (more : List Entry) × (b.journal ≡ given.now ++ more)) }
+    ensures settled { IfOk result (λ b. (g : ℕ) → g < length groups.now → IsSettled b.labels (group_at groups.now g)) }
+{
+    let mut book = replayed(alloc, graph, patterns, given)?;
+    let setting = Setting::new(alloc, graph, patterns, groups)?;
+    let mut queue = Queue::full(alloc, groups.len() as u32)?;
+    let mut leaders = Vec::new(alloc);
+    let mut keyed = Vec::new(alloc);
+    settle_all(&setting, &mut book, &mut queue, &mut leaders, &mut keyed)?;
+    Ok(book)
+}
+
 /// Chases a graph by the groups of its keys' valuations. The groups have the parts of all valuations that share their values
 /// with one at another name, those of equal values of a key in one group. `given` was identified before: it is entered first,
 /// and the journal begins with it. The labels are equal exactly where two names are the same, and the journal is a lean
@@ -78,16 +102,12 @@ pub fn chase_by_signatures(
     ensures same { IfOk result (λ c. (a b : ℕ) → a < length c.labels.items → b < length c.labels.items →
         (slice_index c.labels.items a ≡ slice_index c.labels.items b) ↔ AreSame graph.now patterns.now a b) }
 {
+    // For the proof alone: what holds of valid patterns and of each graph.
     law_listed();
     law_signature();
     all_valid(patterns);
     let _names = graph.names();
-    let mut book = replayed(alloc, graph, patterns, given)?;
-    let setting = Setting::new(alloc, graph, patterns, groups)?;
-    let mut queue = Queue::full(alloc, groups.len() as u32)?;
-    let mut leaders = Vec::new(alloc);
-    let mut keyed = Vec::new(alloc);
-    settle_all(&setting, &mut book, &mut queue, &mut leaders, &mut keyed)?;
+    let book = settled_book(alloc, graph, patterns, groups, given)?;
     let (labels, journal) = book.into_parts();
     Ok(Chased { labels, journal })
 }

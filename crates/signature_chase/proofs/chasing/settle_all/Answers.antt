@@ -1,5 +1,5 @@
 -- Each look leaves its group settled, unless it waits again, and comes nearer to the end.
-use Rattle.std.proofs.Common.{List, [], ◌∷◌, ◌++◌, ℕ, Contains, length, ◌≡◌, ◌<◌, ◌≤◌, ◌⊎◌, inl, inr, refl, sym, ◌∙◌, ap, subst, arith, append_assoc}
+use Rattle.std.proofs.Common.{List, [], ◌∷◌, ◌++◌, ℕ, Contains, length, ◌≡◌, ◌<◌, ◌≤◌, ◌+◌, ◌⊎◌, inl, inr, refl, sym, ◌∙◌, ap, subst, arith, append_assoc}
 use Rattle.std.proofs.lemmas.List.{append-nil}
 use Rattle.chase_laws.specs.declared.entry.Entry.{Entry}
 use Rattle.valuation_groups.specs.Groups.{group_at, row_in}

@@ -3,7 +3,6 @@ use Rattle.std.proofs.Common.{List, ℕ, Contains, length, drop, ◌≡◌, ◌�
 use Rattle.std.specs.Prelude.{slice_index}
 use Rattle.valuation_groups.specs.Groups.{row_in}
 use Rattle.signature_chase.specs.Settled.{name_label}
-use Rattle.signature_chase.proofs.Advancing.{advance_none}
 use Rattle.signature_chase.proofs.Looks.{signed}
 use Rattle.signature_chase.proofs.settling.meet.Goals as goal
 
@@ -34,14 +33,6 @@ enter-requires-clause-apart c = λ j.
     let in_b : c.entry_of-entry.result.b < length labels = rw (h.b, c.requires.derived.count) (c.requires.group.named c.args.right c.requires.right).name in
     let same = (c.label-first.ensures.labelled.classes c.entry_of-entry.result.a c.entry_of-entry.result.b in_a in_b).1 j in
     c.if-first-second.false (c.label-first.ensures.label ∙ ap (slice_index labels) a ∙ same ∙ sym (ap (slice_index labels) b) ∙ sym c.label-second.ensures.label)
-
-pub returns-then-first-eq-second-clause-advances : goal.returns-then-first-eq-second-clause-advances
-returns-then-first-eq-second-clause-advances c = advance_none c.args.setting.now.groups c.args.book.now c.args.queue.now.list
-
-pub returns-then-first-eq-second-clause-met : goal.returns-then-first-eq-second-clause-met
-returns-then-first-eq-second-clause-met c =
-    let labels = c.args.book.now.labels in
-    sym (c.label-first.ensures.label ∙ ap (slice_index labels) c.name-a.ensures) ∙ c.if-first-second.true ∙ c.label-second.ensures.label ∙ ap (slice_index labels) c.name-b.ensures
 
 pub returns-clause-met : goal.returns-clause-met
 returns-clause-met c =
