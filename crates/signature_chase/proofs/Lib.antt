@@ -1,0 +1,11 @@
+mod Advancing
+mod Bounds
+mod Chains
+mod Leading
+mod Listed
+mod Looks
+mod Named
+mod Puts
+mod Queues
+mod Refining
+mod Sides
