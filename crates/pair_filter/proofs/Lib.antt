@@ -3,3 +3,5 @@ mod Steps
 mod Selections
 mod Linked
 mod Asked
+mod Collected
+mod Dealt

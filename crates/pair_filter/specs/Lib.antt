@@ -7,3 +7,4 @@ pub mod Asking
 pub mod Telling
 pub mod Reaching
 pub mod Known
+pub mod Runs

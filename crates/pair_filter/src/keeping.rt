@@ -2,28 +2,21 @@
 
 ghost use Rattle.std.specs.Prelude.{◌≤◌, ◌↔◌, ℕ, Contains, IfOk, length};
 ghost use Rattle.std.specs.List.{AllZip};
-ghost use Rattle.std.specs.Thread.{IsSync};
 ghost use Rattle.chase_laws.specs.Candidate.{AreAscending};
 ghost use Rattle.chase_laws.specs.Chase.{IsAble};
 ghost use Rattle.chase_laws.specs.Pairing.{ArePairedBy};
 ghost use Rattle.pair_filter.specs.Keys.{AreKeysOf};
 ghost use Rattle.pair_filter.specs.Selection.{IsSelection};
 
-use crate::cut::cut_at;
-use crate::keys::keys_of;
-use crate::memo::Memo;
-use crate::reach::{all_keys, is_for, reach_along};
+use crate::dealing::keep_in_threads;
 use chase_laws::Pattern;
 use chase_laws::laws::law_paired;
 use gk_base::NoMemory;
 use paired_search::KeyRange;
 use rayon::current_num_threads;
 use std::alloc::Global;
-use std::thread::{Threads, join};
+use std::thread::Threads;
 use typed_graph::Graph;
-
-/// Below so many pairs a thread costs more than it saves.
-const FEW: usize = 2048;
 
 /// Of so many names at most something is kept for each pair that is filtered, so all of it takes no more than 60 bytes a pair, and
 /// none when the pairs are filtered.
@@ -34,81 +27,6 @@ const NAMES_A_PAIR: usize = 12;
 pub struct KeptPairs {
     pub pairs: Vec<(u32, u32)>,
     pub keys: Vec<KeyRange>,
-}
-
-/// Those of some pairs that are kept, in order, on the caller's thread. Of so many names as there is room for something is kept
-/// meanwhile.
-fn keep_alone(
-    alloc: Global,
-    graph: &Graph,
-    patterns: &[Pattern],
-    pairs: &[(u32, u32)],
-    room: usize,
-) -> Result<KeptPairs, NoMemory>
-    ensures kept { IfOk result (λ v. IsSelection (λ x. ArePairedBy graph.now patterns.now 2 x.0 x.1) pairs.now v.pairs.items) }
-    ensures keys { IfOk result (λ v. AllZip (λ x range. AreKeysOf graph.now patterns.now range x.0 x.1) v.pairs.items v.keys.items) }
-{
-    let mut kept = Vec::with_capacity(alloc, pairs.len())?;
-    let mut keys = Vec::with_capacity(alloc, pairs.len())?;
-    let mut reach = all_keys(patterns, 0);
-    let mut memo = Memo::new(alloc, graph.names(), patterns, room)?;
-    for place in 0..pairs.len() {
-        let pair = pairs[place];
-        if !is_for(&reach, pair) {
-            reach = reach_along(graph, patterns, pair, &pairs[place..], &memo);
-        }
-        let Some(range) = keys_of(graph, patterns, &reach, pair, &mut memo) else {
-            continue;
-        };
-        kept.push(pair)?;
-        keys.push(range)?;
-    }
-    Ok(KeptPairs { pairs: kept, keys })
-}
-
-/// The same. With two threads or more the threads are shared out among the two parts of a longer run of pairs, which is cut so that
-/// each part seems to have its threads' share of the work, and what is kept of each is joined in order. The room is shared out among
-/// the threads. Where a thread can't be started the caller does its work.
-#[cycle(halves)]
-fn keep_in_threads<R: Threads + Sync>(
-    rt: &R,
-    alloc: Global,
-    threads: u32,
-    graph: &Graph,
-    patterns: &[Pattern],
-    pairs: &[(u32, u32)],
-    room: usize,
-) -> Result<KeptPairs, NoMemory>
-    ensures kept { IfOk result (λ v. IsSelection (λ x. ArePairedBy graph.now patterns.now 2 x.0 x.1) pairs.now v.pairs.items) }
-    ensures keys { IfOk result (λ v. AllZip (λ x range. AreKeysOf graph.now patterns.now range x.0 x.1) v.pairs.items v.keys.items) }
-{
-    if threads < 2 || pairs.len() < FEW {
-        return keep_alone(alloc, graph, patterns, pairs, room);
-    }
-    let theirs = threads / 2;
-    let ours = threads - theirs;
-    let share = room / threads as usize;
-    let (below, above) = pairs.split_at(cut_at(graph, patterns, pairs, theirs, threads));
-    let lower = move || -> Result<KeptPairs, NoMemory>
-        requires { IsSync R.row }
-        ensures { IfOk result (λ v. IsSelection (λ x. ArePairedBy graph.entry.now patterns.entry.now 2 x.0 x.1) below.entry.now v.pairs.items × AllZip (λ x range. AreKeysOf graph.entry.now patterns.entry.now range x.0 x.1) v.pairs.items v.keys.items) }
-    {
-        let room = share.saturating_mul(theirs as usize);
-        keep_in_threads(rt, alloc, theirs, graph, patterns, below, room)
-    };
-    let upper = move || -> Result<KeptPairs, NoMemory>
-        requires { IsSync R.row }
-        ensures { IfOk result (λ v. IsSelection (λ x. ArePairedBy graph.entry.now patterns.entry.now 2 x.0 x.1) above.entry.now v.pairs.items × AllZip (λ x range. AreKeysOf graph.entry.now patterns.entry.now range x.0 x.1) v.pairs.items v.keys.items) }
-    {
-        let room = share.saturating_mul(ours as usize);
-        keep_in_threads(rt, alloc, ours, graph, patterns, above, room)
-    };
-    let (low, high) = join(rt, lower, upper);
-    let mut kept = low?;
-    let mut rest = high?;
-    kept.pairs.append(&mut rest.pairs)?;
-    kept.keys.append(&mut rest.keys)?;
-    Ok(kept)
 }
 
 /// Of some pairs, in their order, exactly those that `keep` keeps, and for each of them which keys may identify it: a key

@@ -23,7 +23,7 @@
 
 mod alone;
 mod asks;
-mod cut;
+mod dealing;
 mod here;
 mod keeping;
 mod keys;
@@ -34,6 +34,7 @@ mod parts;
 mod peers;
 mod reach;
 mod refusal;
+mod runs;
 mod sharing;
 
 pub use keeping::{KeptPairs, keep, keep_with_keys};

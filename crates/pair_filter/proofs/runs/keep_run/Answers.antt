@@ -5,8 +5,8 @@ use Rattle.chase_laws.specs.Pairing.{ArePairedBy}
 use Rattle.paired_search.specs.declared.key_range.KeyRange.{KeyRange}
 use Rattle.pair_filter.specs.Keys.{AreKeysOf}
 use Rattle.pair_filter.proofs.Selections.{selection_push, selection_skip}
-use Rattle.pair_filter.proofs.keeping.keep_alone.Goals as goal
-use Rattle.pair_filter.proofs.keeping.keep_alone.Goals.{then-not-is_for, else-not-is_for}
+use Rattle.pair_filter.proofs.runs.keep_run.Goals as goal
+use Rattle.pair_filter.proofs.runs.keep_run.Goals.{then-not-is_for, else-not-is_for}
 
 -- nothing yet
 pub loop-place-init : goal.loop-place-init
@@ -14,7 +14,7 @@ loop-place-init c = record {
   kept = c.in_ok-kept.ensures.items;
   keys = rw (c.in_ok-kept.ensures.items, c.in_ok-keys.ensures.items) tt;
   reach = c.all_keys-reach.ensures.reach c.args.graph.now;
-  memo = c.in_ok-memo.ensures c.args.graph.now;
+  memo = c.requires.memo;
 }
 
 -- a pair that is not kept

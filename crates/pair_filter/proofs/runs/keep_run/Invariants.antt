@@ -5,7 +5,7 @@ use Rattle.pair_filter.specs.Keys.{AreKeysOf}
 use Rattle.pair_filter.specs.Known.{IsMemo}
 use Rattle.pair_filter.specs.Reaching.{IsReach}
 use Rattle.pair_filter.specs.Selection.{IsSelection}
-use Rattle.pair_filter.proofs.keeping.keep_alone.Given as goal
+use Rattle.pair_filter.proofs.runs.keep_run.Given as goal
 
 abbrev pub invariant-loop-place : goal.invariant-loop-place
 invariant-loop-place l = record {
