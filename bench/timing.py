@@ -1,6 +1,6 @@
 """What the measuring scripts share: the program, the words that ask for cases, commands and their times.
 
-The program is that of bin/gkey, or the one that the environment variable GKEY names, which is taken as it stands.
+The program is the one that bin/program names, or the one that the environment variable GKEY names, which is taken as it stands.
 """
 
 import os
