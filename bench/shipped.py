@@ -13,7 +13,6 @@ import shutil
 import subprocess
 import sys
 import tempfile
-import time
 
 from timing import PROGRAM, TOP
 
@@ -77,6 +76,14 @@ class Trial:
         return self.run("bin/gkey", *MATCH, **how)
 
 
+def timed(call):
+    """What the call gives, and the processor time that its programs took."""
+    before = os.times()
+    given = call()
+    after = os.times()
+    return given, after.children_user + after.children_system - before.children_user - before.children_system
+
+
 def reports(run, *told):
     """Whether a run prints the report, and tells these things and nothing else on standard error."""
     said = run.stderr if told else run.stderr or None
@@ -89,16 +96,9 @@ def refuses(run, *told):
 
 def plain(room):
     trial = Trial(room, "plain")
-    begun = time.monotonic()
-    first = trial.match()
-    seconds = time.monotonic() - begun
-    yield "a first report in a second, without a kit", reports(first) and seconds < 1
-    times = []
-    for _ in range(20):
-        begun = time.monotonic()
-        trial.match()
-        times.append(time.monotonic() - begun)
-    print(f"the first call {seconds * 1000:.0f} ms, later ones {min(times) * 1000:.0f} ms at least")
+    first, *later = [timed(trial.match) for _ in range(20)]
+    yield "a first report in a second of processor time, without a kit", reports(first[0]) and first[1] < 1
+    print(f"of processor time the first call took {first[1] * 1000:.0f} ms, and later ones {min(took for _, took in later) * 1000:.0f} ms at least")
     yield "with a kit of the same name", reports(trial.match(has_kit=True))
     yield "env -i", reports(trial.run("env", "-i", "bin/gkey", *MATCH))
     (room / "link").symlink_to(trial.top / "bin" / "gkey")
