@@ -26,7 +26,9 @@ import tempfile
 from timing import PROGRAM, TOP, built
 
 PAGES = ("README.md", "docs/GUIDE.md", "docs/SIZES.md")
-NOT_RUN = {".ci/run": "proves everything, which takes long", "man -l docs/gkey.1": "shows a page on a screen"}
+NOT_RUN = {".ci/run": "proves everything, which takes long", "man -l docs/gkey.1": "shows a page on a screen",
+           "cd crates/gkey && rt try -- match $PWD/../../examples/albums/graph.nt $PWD/../../examples/albums/keys.gk":
+           "compiles the sources, which takes two minutes"}
 MARK = "==== bench/guide.py ===="
 SECONDS = 600
 

@@ -1,7 +1,7 @@
 #!/usr/bin/env python3
 """Compares the manual page with the program: its commands with the usage, its version and limits with what the program says,
 its statuses and error texts with those of small runs, and its examples by running them. `man` and `mandoc -T lint` must find
-no fault.
+no fault. The completions must name the same commands.
 
 Usage: bench/manual.py
 
@@ -23,6 +23,8 @@ from timing import PROGRAM, TOP, built
 PAGE = TOP / "docs" / "gkey.1"
 ALBUMS = [str(TOP / "examples/albums" / name) for name in ("graph.nt", "keys.gk")]
 NOT_RUN = {"6"}
+# where each file of completions/ names the commands
+COMPLETIONS = {"gkey.bash": r'-W "(match [^"]*)"', "_gkey": r"^    '(\S+?):", "gkey.fish": r"__fish_use_subcommand -[al] (\S+)"}
 # of address space, in which the program starts and has no room for its files
 LITTLE = 12 << 20
 
@@ -64,6 +66,13 @@ def ran(*words, out=subprocess.PIPE, limit=None):
 
     done = subprocess.run([PROGRAM, *words], stdout=out, stderr=subprocess.PIPE, preexec_fn=limited, text=True)
     return str(done.returncode), done.stdout, done.stderr
+
+
+def completed():
+    """Each file of completions/ with the commands that it names."""
+    for name, where in COMPLETIONS.items():
+        found = re.findall(where, (TOP / "completions" / name).read_text(encoding="utf-8"), re.M)
+        yield name, {word.lstrip("-") for word in " ".join(found).split()}
 
 
 def runs(folder):
@@ -128,6 +137,10 @@ def differences(folder):
     explained = list(described())
     if explained != [call.replace(" [--workers N]", "") for call in usage]:
         yield f"the description explains other commands, or in another order: {explained}"
+    commands = {call.split()[1].lstrip("-") for call in usage}
+    for name, words in completed():
+        if words != commands:
+            yield f"completions/{name} names other commands: {sorted(words ^ commands)}"
     version = re.search(r"Fl -version\nPrint\n\.Ql (.*) \.", text)[1]
     if ran("--version") != ("0", version + "\n", ""):
         yield f"--version does not print {version}"

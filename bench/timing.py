@@ -1,6 +1,6 @@
 """What the measuring scripts share: the program, the words that ask for cases, commands and their times.
 
-The program is that of bin/gkey, or the one that the environment variable GKEY names, which is taken as it stands.
+The program is the one that bin/program names, or the one that the environment variable GKEY names, which is taken as it stands.
 """
 
 import os
@@ -10,7 +10,8 @@ import sys
 from typing import NamedTuple
 
 TOP = pathlib.Path(__file__).resolve().parent.parent
-PROGRAM = pathlib.Path(os.environ.get("GKEY") or TOP / "crates" / "gkey" / "out" / "gkey").resolve()
+PROGRAM = pathlib.Path(os.environ.get("GKEY")
+                       or subprocess.run([TOP / "bin" / "program"], stdout=subprocess.PIPE, text=True, check=True).stdout.strip()).resolve()
 
 
 class Run(NamedTuple):
@@ -19,9 +20,8 @@ class Run(NamedTuple):
 
 
 def built():
-    """Builds the program where it is missing or older than its sources. One that GKEY names is not built."""
-    first = PROGRAM if os.environ.get("GKEY") else TOP / "bin" / "gkey"
-    subprocess.run([first, "match", TOP / "examples/albums/graph.nt", TOP / "examples/albums/keys.gk"],
+    """Ends the script where the program does not run."""
+    subprocess.run([PROGRAM, "match", TOP / "examples/albums/graph.nt", TOP / "examples/albums/keys.gk"],
                    check=True, stdout=subprocess.DEVNULL)
 
 
