@@ -1,0 +1,9 @@
+mod BlockLaws
+mod CompleteLaws
+mod FindLaws
+mod GroupLaws
+mod LeadingLaws
+mod ListingLaws
+mod MarkLaws
+mod Moves
+mod PartLaws
