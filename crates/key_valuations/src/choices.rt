@@ -1,6 +1,6 @@
 //! Which names may come next at a slot.
 
-ghost use Rattle.std.specs.Prelude.{◌≡◌, ◌<◌, ◌++◌, [], ◌∷◌, ◌⊎◌, ◌↔◌, ℕ, Option, All, Contains, length, slice_index, slice_index_or};
+ghost use Rattle.std.specs.Prelude.{◌≡◌, ◌<◌, ◌++◌, [], ◌∷◌, ◌⊎◌, ◌↔◌, ℕ, Option, All, Contains, length, slice_index_or};
 ghost use Rattle.chase_laws.specs.declared.pattern.Edge.{Edge};
 ghost use Rattle.chase_laws.specs.declared.pattern.Slot.{Slot};
 ghost use Rattle.chase_laws.specs.Graph.{NumberedGraph};

@@ -1,10 +1,9 @@
 //! What one more name has to be, for a list that is part of a valuation to stay so.
 
 ghost use Rattle.std.specs.Prelude.{◌≡◌, ◌≢◌, ◌<◌, ◌≤◌, ◌++◌, [], ◌∷◌, ◌↔◌, ℕ, All, IsTrue, Some, length, slice_get, slice_index};
-ghost use Rattle.chase_laws.specs.Valuation.{FitsSlot};
 ghost use Rattle.key_plan.specs.Route.{IsBlock};
 ghost use Rattle.key_valuations.specs.Part.{EdgeHolds, HoldsAt, IsPart};
-ghost use Rattle.key_valuations.specs.Marks.{IsMarked, IsMarkedPart, mark_at};
+ghost use Rattle.key_valuations.specs.Marks.{IsMarkedPart};
 
 use crate::marks::has_mark;
 use chase_laws::{Edge, Places, Slot};

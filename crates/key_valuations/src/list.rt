@@ -1,9 +1,9 @@
 //! The valuations of all keys whose values another name has, too.
 
-ghost use Rattle.std.specs.Prelude.{◌≡◌, ◌≢◌, ◌≤◌, ◌<◌, ℕ, All, Contains, IfOk, OnOk, length, slice_index};
+ghost use Rattle.std.specs.Prelude.{◌≡◌, ◌≤◌, ◌<◌, All, Contains, IfOk, OnOk, length};
 ghost use Rattle.chase_laws.specs.Signature.{SignatureParts, ListsShared};
 ghost use Rattle.key_plan.specs.Route.{IsPlanOf};
-ghost use Rattle.valuation_groups.specs.Rows.{AscendByValues, StandOnce};
+ghost use Rattle.valuation_groups.specs.Rows.{StandOnce};
 ghost use Rattle.valuation_groups.specs.Groups.{listed_of, AreApart};
 ghost use Rattle.key_valuations.specs.Counts.{HasCounts};
 ghost use Rattle.key_valuations.specs.Listing.{AreBareFrom, AddsSome, IsAt, AreRowsOf, AreSharedRowsOf};
@@ -14,7 +14,7 @@ use crate::extend_all::{bare_from, extend_all};
 use crate::find::begin;
 use crate::leading::{Leading, leading_marks, leading_of, leading_rows};
 use crate::parts::{Lists, counts_of};
-use chase_laws::{Pattern, Places, all_valid};
+use chase_laws::{Pattern, Places};
 use gk_base::NoMemory;
 use key_plan::Plan;
 use std::alloc::Global;
@@ -72,7 +72,16 @@ fn add_at_each(
     let _ = pattern.slots();
     for row in 0..leads.len() {
         let marks = leading_marks(pattern, plan, leading, leads.values(row));
-        add_at(graph, pattern, plan, &marks, bare, leads.name(row), lists, rows)?;
+        add_at(
+            graph,
+            pattern,
+            plan,
+            &marks,
+            bare,
+            leads.name(row),
+            lists,
+            rows,
+        )?;
     }
     Ok(())
 }
@@ -100,7 +109,9 @@ fn rows_of_key<R: Threads + Sync>(
     let mut rows = ValuationRows::new(alloc, key, counts.values, counts.images);
     let mut lists = Lists::new(alloc);
     let bare = bare_from(plan);
-    add_at_each(graph, pattern, plan, bare, leading, &shared, &mut lists, &mut rows)?;
+    add_at_each(
+        graph, pattern, plan, bare, leading, &shared, &mut lists, &mut rows,
+    )?;
     Ok(rows)
 }
 

@@ -1,6 +1,6 @@
 //! Marks: what the names at some places of a plan have to be.
 
-ghost use Rattle.std.specs.Prelude.{◌≡◌, ◌<◌, ◌≤◌, ◌↔◌, ℕ, IsTrue, IfSome, IfNone, List, None, Some, length, slice_get, slice_index};
+ghost use Rattle.std.specs.Prelude.{◌≡◌, ◌<◌, ◌↔◌, ℕ, IsTrue, IfSome, IfNone, List, None, Some, length, slice_get, slice_index};
 ghost use Rattle.chase_laws.specs.Graph.{NumberedGraph, IsLiteral};
 ghost use Rattle.chase_laws.specs.Valuation.{FitsSlot};
 ghost use Rattle.key_plan.specs.Route.{IsPlanOf};
