@@ -1,9 +1,9 @@
 -- Leading values of valuations.
-use Rattle.std.proofs.Common.{List, [], ◌∷◌, ◌++◌, ℕ, zero, suc, Bool, true, false, cond, Option, Some, None, All, Contains, map, set, take, slice_get, slice_index, get_or, length, ◌≡◌, ◌≢◌, ◌<◌, ◌≤◌, ◌+◌, ◌⊎◌, inl, inr, refl, sym, ◌∙◌, ap, ap₂, subst, arith, length-append}
+use Rattle.std.proofs.Common.{List, [], ◌∷◌, ◌++◌, ℕ, zero, suc, Bool, true, false, cond, Option, Some, None, All, Contains, set, take, slice_get, slice_index, get_or, length, ◌≡◌, ◌<◌, ◌≤◌, ◌+◌, ◌⊎◌, inl, inr, refl, sym, ◌∙◌, ap, ap₂, subst, arith, length-append}
 use Rattle.std.specs.List.{flat_map, range_with_len}
 use Rattle.std.proofs.lemmas.Bool.{cases_eq}
-use Rattle.std.proofs.lemmas.List.{take_all, take_more, get_or-map, length-map, get_or_default, get_or-set_same, get_or-set_other}
-use Rattle.std.proofs.lemmas.List.Elements.{All-contains, Contains-append_left, Contains-push}
+use Rattle.std.proofs.lemmas.List.{take_more, get_or-map, length-map, get_or_default, get_or-set_same, get_or-set_other}
+use Rattle.std.proofs.lemmas.List.Elements.{All-contains}
 use Rattle.std.proofs.lemmas.Option.{slice_get_within}
 use Rattle.chase_laws.specs.declared.pattern.Slot.{Slot}
 use Rattle.chase_laws.specs.declared.pattern.Slot.TheVariants.{Entity, Any as AnyOf, Value, Folded, Fixed}
@@ -11,7 +11,7 @@ use Rattle.chase_laws.specs.declared.pattern.Edge.{Edge}
 use Rattle.chase_laws.specs.Shape.{Shape}
 use Rattle.chase_laws.specs.Graph.{NumberedGraph, HasRow, IsLiteral}
 use Rattle.chase_laws.specs.Valuation.{IsValuation, FitsSlot}
-use Rattle.chase_laws.specs.Signature.{SignatureParts, value_at, values_of}
+use Rattle.chase_laws.specs.Signature.{value_at, values_of}
 use Rattle.key_plan.specs.Route.{Route, IsPlanOf}
 use Rattle.valuation_groups.specs.Rows.{KeyRows}
 use Rattle.key_valuations.specs.Marks.{IsMarked, HasMark, AreMarkedBySlots, mark_at}
@@ -139,21 +139,6 @@ module _ (G : NumberedGraph) (leading : List Leading) where
   pub led_weaker : (A B : List ℕ → Type 0) (old new : KeyRows) → ((v : List ℕ) → B v → A v) → AddsLed G leading A old new → AddsLed G leading B old new
   led_weaker A B old new f x = record { key = x.key; value_count = x.value_count; image_count = x.image_count; kept = x.kept; every = λ v b. x.every v (f v b) }
 
-  -- one row for all that pass, which have this name and these leading values
-  pub led_one : (A : List ℕ → Type 0) (old new : KeyRows) (name : ℕ) (values : List ℕ) →
-      (let p : SignatureParts = record { key = old.key; name = name; values = values; images = [] } in new ≡ record old { parts = old.parts ++ p ∷ [] }) →
-      ((v : List ℕ) → A v → (slice_index v 0 ≡ name) × (leading_values G leading v ≡ values)) → AddsLed G leading A old new
-  led_one A old new name values e same = subst (AddsLed G leading A old) (sym e) (record {
-    key = refl;
-    value_count = refl;
-    image_count = refl;
-    kept = λ p h. Contains-append_left old.parts (record { key = old.key; name = name; values = values; images = [] } ∷ []) p h;
-    every = λ v a.
-        let x = same v a in
-        let q : ℕ → List ℕ → SignatureParts = λ n us. record { key = old.key; name = n; values = us; images = [] } in
-        subst (Contains (old.parts ++ q name values ∷ [])) (sym (ap₂ q x.0 x.1)) (Contains-push old.parts (q name values));
-  })
-
 at_is : (xs : List Leading) (k : ℕ) (x : Leading) → slice_get xs k ≡ Some x → get_or xs k x ≡ x
 at_is [] k x h = absurd (cc)
 at_is (y ∷ ys) zero x h = cc
@@ -232,9 +217,3 @@ module _ (G : NumberedGraph) (Q : Shape) (leading : List Leading) (lead : Leadin
   pub led_done : (literals : List ℕ) (old new : KeyRows) → ((o : ℕ) → HasRow G name lead.pred o → Contains literals o) → AddsLed G leading (IsLedAmong G Q leading lead name front literals) old new → AddsLed G leading (IsLedBy G Q leading name front) old new
   led_done literals old new all x = led_weaker G leading (IsLedAmong G Q leading lead name front literals) (IsLedBy G Q leading name front) old new
       (λ v by. record { by = by; among = all (slice_index v lead.slot) (subst (λ (n : ℕ). HasRow G n lead.pred (slice_index v lead.slot)) by.name (leading_row G Q lead is v by.led.1.left)) }) x
-
--- all leading values are given
-pub led_whole : (G : NumberedGraph) (Q : Shape) (leading : List Leading) (name : ℕ) (front v : List ℕ) → length leading ≤ length front → IsLedBy G Q leading name front v → leading_values G leading v ≡ front
-led_whole G Q leading name front v all by =
-    let long : length (leading_values G leading v) ≡ length leading = length-map leading (λ (lead : Leading). leading_value G lead (slice_index v lead.slot)) in
-    sym (take_all (length front) (leading_values G leading v) (omega arith)) ∙ by.begins

@@ -1,6 +1,5 @@
 -- Leading values: those at slots next to slot 0 (this project's own).
-use Rattle.std.specs.Prelude.{List, [], ℕ, Bool, false, cond, Some, All, Contains, map, take, length, slice_get, slice_index, ◌≡◌}
-use Rattle.chase_laws.specs.declared.pattern.Slot.{Slot}
+use Rattle.std.specs.Prelude.{List, [], ℕ, false, cond, Some, Contains, map, take, length, slice_get, slice_index, ◌≡◌}
 use Rattle.chase_laws.specs.declared.pattern.Slot.TheVariants.{Value, Folded}
 use Rattle.chase_laws.specs.declared.pattern.Edge.{Edge}
 use Rattle.chase_laws.specs.Shape.{Shape}

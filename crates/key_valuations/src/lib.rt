@@ -22,5 +22,5 @@ mod list;
 mod marks;
 mod parts;
 
-pub use list::list_valuations;
 pub use find::find_valuation;
+pub use list::list_valuations;

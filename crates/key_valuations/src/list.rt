@@ -72,7 +72,16 @@ fn add_at_each(
     let _ = pattern.slots();
     for row in 0..leads.len() {
         let marks = leading_marks(pattern, plan, leading, leads.values(row));
-        add_at(graph, pattern, plan, &marks, bare, leads.name(row), lists, rows)?;
+        add_at(
+            graph,
+            pattern,
+            plan,
+            &marks,
+            bare,
+            leads.name(row),
+            lists,
+            rows,
+        )?;
     }
     Ok(())
 }
@@ -100,7 +109,9 @@ fn rows_of_key<R: Threads + Sync>(
     let mut rows = ValuationRows::new(alloc, key, counts.values, counts.images);
     let mut lists = Lists::new(alloc);
     let bare = bare_from(plan);
-    add_at_each(graph, pattern, plan, bare, leading, &shared, &mut lists, &mut rows)?;
+    add_at_each(
+        graph, pattern, plan, bare, leading, &shared, &mut lists, &mut rows,
+    )?;
     Ok(rows)
 }
 

@@ -1,10 +1,9 @@
 -- Every literal is tried, but for those that no other name may have.
-use Rattle.std.proofs.Common.{List, [], ◌∷◌, ◌++◌, ℕ, Some, take, get_or, slice_get, slice_index, length, ◌≡◌, ◌+◌, refl, sym, ◌∙◌, ap, subst, arith}
+use Rattle.std.proofs.Common.{List, [], ◌∷◌, ◌++◌, ℕ, Some, take, slice_get, length, ◌≡◌, refl, ◌∙◌, ap, subst, arith}
 use Rattle.std.proofs.lemmas.List.{take_all, take-append-le}
 use Rattle.chase_laws.proofs.CallerLemmas.{All-at}
-use Rattle.valuation_groups.specs.Rows.{KeyRows}
 use Rattle.key_valuations.specs.Leading.{IsLeading, IsLedBy, AddsLed}
-use Rattle.key_valuations.proofs.LeadingLaws.{IsLedAmong, led_none, led_more, led_skip, led_done, led_one, led_whole}
+use Rattle.key_valuations.proofs.LeadingLaws.{IsLedAmong, led_none, led_more, led_skip, led_done}
 use Rattle.key_valuations.proofs.leading.+add_choices.Goals as goal
 
 pub loop-literal-init : goal.loop-literal-init

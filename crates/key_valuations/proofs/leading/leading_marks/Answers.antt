@@ -1,8 +1,7 @@
 -- One leading slot after another.
-use Rattle.std.proofs.Common.{List, ℕ, Option, Some, set, get_or, length, slice_index, ◌≡◌, ◌<◌, sym, ◌∙◌, ap, subst, arith}
+use Rattle.std.proofs.Common.{List, ℕ, Some, set, get_or, length, slice_index, ◌<◌, sym, ◌∙◌, ap, subst, arith}
 use Rattle.std.proofs.Math.ListN.{length-set}
 use Rattle.std.proofs.lemmas.Option.{slice_get_within}
-use Rattle.chase_laws.specs.declared.pattern.Slot.TheVariants.{Value, Folded}
 use Rattle.chase_laws.proofs.CallerLemmas.{All-at}
 use Rattle.key_valuations.specs.Marks.{AreMarkedBySlots}
 use Rattle.key_valuations.specs.Leading.{IsLeading}

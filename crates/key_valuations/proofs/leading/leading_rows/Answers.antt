@@ -1,7 +1,7 @@
 -- Name by name.
-use Rattle.std.proofs.Common.{List, [], ℕ, Contains, get_or, take, length, slice_index, ◌≡◌, inl, inr, refl, sym, ◌∙◌, subst, arith}
+use Rattle.std.proofs.Common.{List, [], ℕ, Contains, get_or, slice_index, inl, inr, refl, sym, ◌∙◌, subst, arith}
 use Rattle.std.proofs.lemmas.List.{take_all}
-use Rattle.key_valuations.specs.Leading.{IsLed, IsLedBy, leading_parts}
+use Rattle.key_valuations.specs.Leading.{IsLedBy, leading_parts}
 use Rattle.key_valuations.proofs.CompleteLaws.{contains_more}
 use Rattle.key_valuations.proofs.leading.leading_rows.Goals as goal
 

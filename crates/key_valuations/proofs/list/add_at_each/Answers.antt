@@ -1,10 +1,10 @@
 -- Row by row.
-use Rattle.std.proofs.Common.{[], List, ℕ, length, get_or, take, slice_index, ◌≡◌, ◌+◌, inl, inr, sym, ◌∙◌, ap, subst, arith}
-use Rattle.std.proofs.lemmas.List.{take_all, get_or_default}
+use Rattle.std.proofs.Common.{[], List, length, take, ◌+◌, inl, inr, sym, ◌∙◌, ap, subst, arith}
+use Rattle.std.proofs.lemmas.List.{take_all}
 use Rattle.chase_laws.specs.Signature.{SignatureParts}
 use Rattle.valuation_groups.specs.Rows.{part_at, IsOfShape}
 use Rattle.key_valuations.specs.Listing.{IsAt, AddsSome}
-use Rattle.key_valuations.specs.Leading.{IsAtRow, leading_values, leading_parts}
+use Rattle.key_valuations.specs.Leading.{IsAtRow, leading_parts}
 use Rattle.key_valuations.proofs.CompleteLaws.{contains_more}
 use Rattle.key_valuations.proofs.ListingLaws.{some_none, some_then, counts_kept}
 use Rattle.key_valuations.proofs.list.add_at_each.Goals as goal

@@ -1,5 +1,5 @@
 -- Those whose leading values another name has are asked, which are all names of the key's type that matter.
-use Rattle.std.proofs.Common.{List, ℕ, Some, All, Contains, slice_index, ◌≡◌, inl, inr, sym, ◌∙◌, subst, arith}
+use Rattle.std.proofs.Common.{List, ℕ, All, Contains, slice_index, ◌≡◌, inl, inr, sym, ◌∙◌, subst, arith}
 use Rattle.chase_laws.specs.declared.pattern.Slot.TheVariants.{Entity}
 use Rattle.chase_laws.specs.Signature.{SignatureParts, parts_of}
 use Rattle.chase_laws.specs.Valuation.{IsValuation}
