@@ -1,18 +1,16 @@
 -- Lists with marks, and what completes them.
 use Rattle.std.proofs.Common.{List, [], ◌∷◌, ◌++◌, ℕ, Option, Some, All, Contains, slice_get, slice_index, get_or, take, length, ◌≡◌, ◌<◌, ◌≤◌, ◌+◌, ◌⊎◌, inl, inr, sym, ◌∙◌, ap, subst, arith, length-append}
-use Rattle.std.proofs.lemmas.Bool.{cases_eq}
 use Rattle.std.proofs.lemmas.List.{get_or-take, length-take-le, take_all, take-take, take-append-le, take_more}
 use Rattle.std.proofs.lemmas.List.Elements.{Contains-push_cases}
-use Rattle.std.proofs.lemmas.Option.{slice_get_within}
 use Rattle.chase_laws.specs.declared.pattern.Slot.{Slot}
 use Rattle.chase_laws.specs.declared.pattern.Edge.{Edge}
 use Rattle.chase_laws.specs.Shape.{Shape}
 use Rattle.chase_laws.specs.Graph.{NumberedGraph}
 use Rattle.chase_laws.specs.Valuation.{IsValuation, FitsSlot}
 use Rattle.key_plan.specs.Route.{IsBlock}
-use Rattle.key_valuations.specs.Part.{EdgeHolds, IsPart, IsReady}
+use Rattle.key_valuations.specs.Part.{EdgeHolds}
 use Rattle.key_valuations.specs.Marks.{IsMarked, AreMarked, IsMarkedPart, IsCompletedBy, mark_at}
-use Rattle.key_valuations.proofs.PartLaws.{part_front, part_whole, front_at, last_at, some_same}
+use Rattle.key_valuations.proofs.PartLaws.{part_front}
 use Rattle.key_valuations.proofs.BlockLaws.{block_part}
 
 -- the next front
@@ -20,8 +18,8 @@ front_next : (v p : List ℕ) → length p < length v → take (length p) v ≡ 
 front_next v p h e = take_more v (length p) 0 h ∙ ap (λ q. q ++ slice_index v (length p) ∷ []) e
 
 -- one element more
-pub contains_more : (xs : List ℕ) (i x : ℕ) → i < length xs → Contains (take (i + 1) xs) x → Contains (take i xs) x ⊎ (get_or xs i 0 ≡ x)
-contains_more xs i x h c = Contains-push_cases (take i xs) (get_or xs i 0) x (rw (take_more xs i 0 h) at c)
+pub contains_more : {X : Type 0} (xs : List X) (i : ℕ) (x d : X) → i < length xs → Contains (take (i + 1) xs) x → Contains (take i xs) x ⊎ (get_or xs i d ≡ x)
+contains_more xs i x d h c = Contains-push_cases (take i xs) (get_or xs i d) x (rw (take_more xs i d h) at c)
 
 -- what a valuation that completes a list has behind it
 pub record Next (G : NumberedGraph) (Q : Shape) (marks : List (Option ℕ)) (slot : Slot) (block : List Edge) (p : List ℕ) (m : ℕ) : Type 0 where
@@ -31,23 +29,6 @@ pub record Next (G : NumberedGraph) (Q : Shape) (marks : List (Option ℕ)) (slo
   pub marked : IsMarked G slot (mark_at marks (length p)) m
 
 module _ (G : NumberedGraph) (Q : Shape) (marks : List (Option ℕ)) where
-  -- one number with its mark
-  pub marked_push : (slot : Slot) (p : List ℕ) (m : ℕ) → AreMarked G Q marks p → slice_get Q.slots (length p) ≡ Some slot → IsMarked G slot (mark_at marks (length p)) m → AreMarked G Q marks (p ++ m ∷ [])
-  marked_push slot p m before at here = λ s slot' in_s at'.
-      let long : length (p ++ m ∷ []) ≡ length p + 1 = length-append p (m ∷ []) in
-      elim (cases_eq s (length p)) [
-        | inl e ↦ (let q : Some slot ≡ Some slot' = sym at ∙ ap (slice_get Q.slots) (sym e) ∙ at' in
-            let last : slice_index (p ++ m ∷ []) s ≡ m = ap (slice_index (p ++ m ∷ [])) e ∙ last_at p m 0 in
-            subst (λ (t : Slot). IsMarked G t (mark_at marks s) (slice_index (p ++ m ∷ []) s)) (some_same slot slot' q)
-            (subst (λ (k : ℕ). IsMarked G slot (mark_at marks k) (slice_index (p ++ m ∷ []) s)) (sym e) (subst (IsMarked G slot (mark_at marks (length p))) (sym last) here)))
-        | inr other ↦ subst (IsMarked G slot' (mark_at marks s)) (sym (front_at p m s 0 (omega arith))) (before s slot' (omega arith) at')
-      ]
-
-  pub marked_last : (slot : Slot) (p : List ℕ) (m : ℕ) → AreMarked G Q marks (p ++ m ∷ []) → slice_get Q.slots (length p) ≡ Some slot → IsMarked G slot (mark_at marks (length p)) m
-  marked_last slot p m marked at =
-      let long : length (p ++ m ∷ []) ≡ length p + 1 = length-append p (m ∷ []) in
-      subst (IsMarked G slot (mark_at marks (length p))) (last_at p m 0) (marked (length p) slot (omega arith) at)
-
   -- the front of a valuation with the marks
   pub marked_front : (v : List ℕ) (k : ℕ) → k ≤ length Q.slots → IsValuation G Q v → AreMarked G Q marks v → IsMarkedPart G Q marks (take k v)
   marked_front v k h valuation marked =
@@ -75,13 +56,6 @@ module _ (G : NumberedGraph) (Q : Shape) (marks : List (Option ℕ)) where
     begins = sym (take-take (length p) (length (p ++ m ∷ [])) v (omega (arith, length-append p (m ∷ [])))) ∙ ap (take (length p)) c.begins ∙ take-append-le (length p) p (m ∷ []) (omega arith) ∙ take_all (length p) p (omega arith);
   }
 
-  pub completes_whole : (p : List ℕ) → IsReady Q → IsMarkedPart G Q marks p → length Q.slots ≤ length p → IsCompletedBy G Q marks p p
-  completes_whole p ok x long = record {
-    valuation = part_whole G Q p ok x.part (let few = x.part.few in omega arith);
-    marked = x.marked;
-    begins = take_all (length p) p (omega arith);
-  }
-
   pub next : (slot : Slot) (block : List Edge) (p v : List ℕ) → length p < length Q.slots → slice_get Q.slots (length p) ≡ Some slot → IsBlock Q (length p) block → IsCompletedBy G Q marks p v →
       Next G Q marks slot block p (slice_index v (length p))
   next slot block p v short at is c =
@@ -98,7 +72,7 @@ module _ (G : NumberedGraph) (Q : Shape) (marks : List (Option ℕ)) where
       (IsMarkedPart G Q marks (p ++ get_or xs i 0 ∷ []) → (v : List ℕ) → IsCompletedBy G Q marks (p ++ get_or xs i 0 ∷ []) v → ⊥) →
       ((v : List ℕ) → IsCompletedBy G Q marks p v → Contains (take i xs) (get_or v s 0) → ⊥) →
       (v : List ℕ) → IsCompletedBy G Q marks p v → Contains (take (i + 1) xs) (get_or v s 0) → ⊥
-  none_more p s i xs here short in_i next before v c at = elim (contains_more xs i (get_or v s 0) in_i at) [
+  none_more p s i xs here short in_i next before v c at = elim (contains_more xs i (get_or v s 0) 0 in_i at) [
     | inl old ↦ before v c old
     | inr new ↦
         (let both = completes_next p v short c in

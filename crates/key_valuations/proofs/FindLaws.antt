@@ -1,8 +1,7 @@
 -- A valuation in the order of the plan, and by slots.
-use Rattle.std.proofs.Common.{List, [], ◌∷◌, ◌++◌, ℕ, Option, Some, take, slice_get, slice_index, map, length, ◌≡◌, ◌<◌, refl, sym, ◌∙◌, ap, subst, arith}
-use Rattle.std.proofs.lemmas.List.{get_or-map, length-map}
+use Rattle.std.proofs.Common.{List, [], ◌∷◌, ℕ, Option, take, slice_index, length, ◌≡◌, ◌<◌, refl, sym, ◌∙◌, ap, subst, arith}
+use Rattle.std.proofs.lemmas.List.{get_or-map}
 use Rattle.std.proofs.lemmas.Option.{slice_get_within}
-use Rattle.chase_laws.specs.declared.pattern.Slot.{Slot}
 use Rattle.chase_laws.specs.Shape.{Shape, PatternFacts}
 use Rattle.chase_laws.specs.Graph.{NumberedGraph}
 use Rattle.chase_laws.specs.Valuation.{IsValuation}

@@ -1,16 +1,15 @@
 -- Groups of one key after another.
-use Rattle.std.proofs.Common.{List, [], ◌∷◌, ◌++◌, ℕ, zero, suc, Some, All, AllPairs, Contains, slice_get, slice_index, get_or, length, ◌≡◌, ◌≢◌, ◌<◌, ◌≤◌, ◌+◌, ◌-◌, ◌⊎◌, inl, inr, refl, sym, ◌∙◌, ap, subst, arith, length-append}
+use Rattle.std.proofs.Common.{List, [], ◌++◌, ℕ, Some, Contains, slice_get, get_or, length, ◌≡◌, ◌<◌, ◌≤◌, ◌+◌, ◌-◌, inl, inr, refl, sym, ◌∙◌, ap, subst, arith, length-append}
 use Rattle.std.proofs.lemmas.Bool.{cases_eq, cases_lt}
 use Rattle.std.proofs.lemmas.List.{get_or_append_left, get_or-append_right}
 use Rattle.std.proofs.lemmas.List.Elements.{Contains-append_left, Contains-append_right, Contains-append_cases, Contains-get_or}
 use Rattle.chase_laws.specs.Shape.{Shape}
 use Rattle.chase_laws.specs.Graph.{NumberedGraph}
-use Rattle.chase_laws.specs.Valuation.{IsValuation}
-use Rattle.chase_laws.specs.Signature.{SignatureParts, parts_of, values_of, ArePartsOfSome, ListsShared}
-use Rattle.valuation_groups.specs.Rows.{KeyRows, IsShared, StandOnce}
+use Rattle.chase_laws.specs.Signature.{SignatureParts, parts_of, ArePartsOfSome, ListsShared}
+use Rattle.valuation_groups.specs.Rows.{KeyRows, StandOnce}
 use Rattle.valuation_groups.specs.Groups.{AreApart}
 use Rattle.key_valuations.specs.Parts.{IsSharedIn}
-use Rattle.key_valuations.specs.Listing.{AreAlikeInValues, AreRowsOf, AreSharedRowsOf}
+use Rattle.key_valuations.specs.Listing.{AreAlikeInValues, AreSharedRowsOf}
 
 some_same : (x y : Shape) → Some x ≡ Some y → x ≡ y
 some_same x y e = cc

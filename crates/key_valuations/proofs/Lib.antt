@@ -2,6 +2,7 @@ mod BlockLaws
 mod CompleteLaws
 mod FindLaws
 mod GroupLaws
+mod LeadingLaws
 mod ListingLaws
 mod MarkLaws
 mod Moves

@@ -4,7 +4,7 @@ use Rattle.std.specs.List.{flat_map, range_with_len}
 use Rattle.std.proofs.lemmas.Bool.{cases_lt}
 use Rattle.std.proofs.lemmas.List.{get_or-take, take_more}
 use Rattle.std.proofs.lemmas.List.Elements.{Contains-push_cases, Contains-push, Contains-append_left}
-use Rattle.std.proofs.lemmas.Option.{slice_get_within, slice_get-get_or}
+use Rattle.std.proofs.lemmas.Option.{slice_get_within}
 use Rattle.chase_laws.specs.declared.pattern.Slot.{Slot}
 use Rattle.chase_laws.specs.declared.pattern.Slot.TheVariants.{Entity, Any as AnyOf, Value, Folded, Fixed}
 use Rattle.chase_laws.specs.Shape.{Shape, PatternFacts}
@@ -13,7 +13,6 @@ use Rattle.chase_laws.specs.Valuation.{IsValuation}
 use Rattle.chase_laws.specs.Signature.{SignatureParts, parts_of, value_at, image_at, values_of, images_of}
 use Rattle.key_plan.specs.Route.{Route, IsPlanOf}
 use Rattle.valuation_groups.specs.Rows.{KeyRows}
-use Rattle.key_valuations.specs.Part.{IsPlaced}
 use Rattle.key_valuations.specs.Marks.{IsCompletedBy, IsMarkedPart}
 use Rattle.key_valuations.specs.Counts.{HasCounts}
 use Rattle.key_valuations.specs.Listing.{IsBare, AreBareFrom, IsReached, AddsParts, AddsSome}
@@ -189,7 +188,7 @@ module _ (G : NumberedGraph) (Q : Shape) (R : Route) (marks : List (Option ℕ))
     }
 
     reached_cases : (v : List ℕ) → IsReachedBy G R marks p (take (i + 1) names) v → IsReachedBy G R marks p (take i names) v ⊎ IsReached G R marks (p ++ get_or names i 0 ∷ []) v
-    reached_cases v r = elim (contains_more names i (slice_index r.reached.ordered (length p)) within r.tried) [
+    reached_cases v r = elim (contains_more names i (slice_index r.reached.ordered (length p)) 0 within r.tried) [
       | inl old ↦ inl (record { reached = r.reached; tried = old })
       | inr new ↦ inr (reached_next (get_or names i 0) v r.reached new)
     ]

@@ -1,5 +1,5 @@
 -- Marks of given values and images, slot by slot.
-use Rattle.std.proofs.Common.{List, [], ◌∷◌, ◌++◌, ℕ, zero, suc, Option, Some, slice_get, slice_index, get_or, set, length, ◌≡◌, ◌≢◌, ◌<◌, ◌+◌, inl, inr, refl, sym, ◌∙◌, ap, subst, arith, append_assoc, length-append}
+use Rattle.std.proofs.Common.{List, [], ◌∷◌, ◌++◌, ℕ, zero, suc, Option, Some, slice_get, slice_index, set, length, ◌≡◌, ◌≢◌, ◌<◌, ◌+◌, inl, inr, refl, sym, ◌∙◌, ap, subst, arith, append_assoc, length-append}
 use Rattle.std.specs.List.{flat_map, range_with_len}
 use Rattle.std.proofs.Math.ListN.{length-set}
 use Rattle.std.proofs.lemmas.Bool.{cases_eq}
@@ -8,9 +8,8 @@ use Rattle.std.proofs.lemmas.Option.{slice_get_within}
 use Rattle.chase_laws.specs.declared.pattern.Slot.{Slot}
 use Rattle.chase_laws.specs.Shape.{Shape}
 use Rattle.chase_laws.specs.Graph.{NumberedGraph}
-use Rattle.chase_laws.specs.Valuation.{IsValuation}
 use Rattle.chase_laws.specs.Signature.{value_at, image_at, values_of, images_of}
-use Rattle.key_valuations.specs.Marks.{IsMarked, IsNextMark, IsUsedUp, AreMarksOf, AreMarkedBySlots, HasGiven, mark_at}
+use Rattle.key_valuations.specs.Marks.{IsMarked, IsNextMark, IsUsedUp, AreMarksOf, HasGiven, mark_at}
 use Rattle.key_valuations.proofs.PartLaws.{some_same}
 
 -- ---- pieces of a list, one for each number
@@ -55,18 +54,6 @@ pub record AreMarksTo (Q : Shape) (place values images : List ℕ) (marks : List
       (flat_map (value_piece G Q v) (range_with_len 0 s) ++ values' ≡ values) × (flat_map (image_piece Q v) (range_with_len 0 s) ++ images' ≡ images)
 
 module _ (Q : Shape) (place values images : List ℕ) where
-  pub marks_none : (marks : List (Option ℕ)) → length marks ≡ 16 → AreMarksTo Q place values images marks 0 values images
-  marks_none marks long = record {
-    long = long;
-    every = λ G v r e h k.
-        let whole : r ≡ length Q.slots = omega arith in (
-          subst (λ (n : ℕ). flat_map (value_piece G Q v) (range_with_len 0 n) ≡ values) (sym whole) h,
-          subst (λ (n : ℕ). flat_map (image_piece Q v) (range_with_len 0 n) ≡ images) (sym whole) k,
-          λ t slot lt at. absurd (omega arith),
-        );
-    only = λ G v marked. (refl, refl);
-  }
-
   -- what is left for slot s, and behind it
   module _ (marks : List (Option ℕ)) (s : ℕ) (values' images' : List ℕ) (before : AreMarksTo Q place values images marks s values' images') (slot : Slot) (at : slice_get Q.slots s ≡ Some slot) where
     first_left : (G : NumberedGraph) (v : List ℕ) (r : ℕ) → s + suc r ≡ length Q.slots → values_of G Q v ≡ values → images_of Q v ≡ images →

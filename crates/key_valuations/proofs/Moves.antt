@@ -1,10 +1,9 @@
 -- A pattern under other numbers.
-use Rattle.std.proofs.Common.{List, ℕ, Bool, Contains, All, get_or, map, length, slice_get, slice_index, ◌≡◌, ◌<◌, inl, inr, sym, ◌∙◌, ap, ap₂, subst, arith}
+use Rattle.std.proofs.Common.{List, ℕ, Contains, All, get_or, map, length, slice_get, slice_index, ◌≡◌, ◌<◌, inl, inr, sym, ◌∙◌, ap, ap₂, subst, arith}
 use Rattle.std.proofs.lemmas.Bool.{cases_order}
 use Rattle.std.proofs.lemmas.List.{get_or-map, length-map, get_or_default}
 use Rattle.std.proofs.lemmas.List.Elements.{All-contains, All-map, Contains-get_or}
 use Rattle.std.proofs.lemmas.Option.{slice_get_within}
-use Rattle.chase_laws.specs.declared.pattern.Slot.{Slot}
 use Rattle.chase_laws.specs.declared.pattern.Slot.TheVariants as slot
 use Rattle.chase_laws.specs.declared.pattern.Edge.{Edge}
 use Rattle.chase_laws.specs.Shape.{Shape, PatternFacts}

@@ -45,15 +45,6 @@ part_push G Q slot p m part at new fits edges =
       ];
     }
 
--- what a longer list that fits so far says of its last number
-pub part_last : (G : NumberedGraph) (Q : Shape) (slot : Slot) (p : List ℕ) (m : ℕ) → IsPart G Q (p ++ m ∷ []) → slice_get Q.slots (length p) ≡ Some slot →
-    ((k : ℕ) → k < length p → slice_index p k ≢ m) × FitsSlot G slot m
-part_last G Q slot p m part at =
-    let longer : length (p ++ m ∷ []) ≡ length p + 1 = length-append p (m ∷ []) in (
-      (λ k h same. part.different k (length p) 0 h (omega arith) (front_at p m k 0 h ∙ same ∙ sym (last_at p m 0))),
-      subst (FitsSlot G slot) (last_at p m 0) (part.kinds (length p) slot (omega arith) at),
-    )
-
 -- the front of a list that fits
 pub part_front : (G : NumberedGraph) (Q : Shape) (v : List ℕ) (k : ℕ) → k ≤ length Q.slots → IsValuation G Q v → IsPart G Q (take k v)
 part_front G Q v k h fits =

@@ -5,3 +5,4 @@ pub mod Part
 pub mod Marks
 pub mod Counts
 pub mod Listing
+pub mod Leading

@@ -53,11 +53,6 @@ pub record IsAt (G : NumberedGraph) (Q : Shape) (place : List ℕ) (marks : List
   pub marked : AreMarkedBySlots G Q place marks v
   pub name : slice_index v 0 ≡ name'
 
--- a valuation at one of the names
-pub record IsAtOne (G : NumberedGraph) (Q : Shape) (names : List ℕ) (v : List ℕ) : Type 0 where
-  pub valuation : IsValuation G Q v
-  pub among : Contains names (slice_index v 0)
-
 -- two valuations at different names have the same values
 pub record AreAlikeInValues (G : NumberedGraph) (Q : Shape) (v w : List ℕ) : Type 0 where
   pub left : IsValuation G Q v

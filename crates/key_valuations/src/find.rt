@@ -45,7 +45,16 @@ pub(crate) fn begin(
     ensures kept { IsFalse result → places.new ≡ [] }
 {
     let block = plan.block(0);
-    if !goes_on_marked(graph, plan, marks, block, block.len(), plan.slot(0), places, name) {
+    if !goes_on_marked(
+        graph,
+        plan,
+        marks,
+        block,
+        block.len(),
+        plan.slot(0),
+        places,
+        name,
+    ) {
         return false;
     }
     places.push(name);

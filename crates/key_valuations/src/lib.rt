@@ -6,6 +6,7 @@
 //! - `marks`: what the names at some places have to be
 //! - `complete`: one valuation that begins with a list
 //! - `find`: one valuation with given parts
+//! - `leading`: the values next to slot 0, by which names are left out at once
 //! - `parts`: the parts of a valuation as a row
 //! - `extend_all`: all choices at the slots behind a list
 //! - `list`: the valuations of all keys whose values another name has, too
@@ -16,9 +17,10 @@ mod complete;
 mod extend_all;
 mod find;
 mod fits;
+mod leading;
 mod list;
 mod marks;
 mod parts;
 
-pub use list::list_valuations;
 pub use find::find_valuation;
+pub use list::list_valuations;

@@ -1,17 +1,18 @@
 //! The valuations of all keys whose values another name has, too.
 
-ghost use Rattle.std.specs.Prelude.{◌≡◌, ◌≢◌, ◌≤◌, ◌<◌, ℕ, Contains, IfOk, OnOk, length, slice_index};
+ghost use Rattle.std.specs.Prelude.{◌≡◌, ◌≢◌, ◌≤◌, ◌<◌, ℕ, All, Contains, IfOk, OnOk, length, slice_index};
 ghost use Rattle.chase_laws.specs.Signature.{SignatureParts, ListsShared};
 ghost use Rattle.key_plan.specs.Route.{IsPlanOf};
 ghost use Rattle.valuation_groups.specs.Rows.{AscendByValues, StandOnce};
 ghost use Rattle.valuation_groups.specs.Groups.{listed_of, AreApart};
 ghost use Rattle.key_valuations.specs.Counts.{HasCounts};
-ghost use Rattle.key_valuations.specs.Listing.{AreBareFrom, AddsSome, IsAt, IsAtOne, AreRowsOf, AreSharedRowsOf};
+ghost use Rattle.key_valuations.specs.Listing.{AreBareFrom, AddsSome, IsAt, AreRowsOf, AreSharedRowsOf};
+ghost use Rattle.key_valuations.specs.Leading.{IsLeading, IsAtRow};
 ghost use Rattle.key_valuations.specs.Parts.{IsSharedIn};
 
 use crate::extend_all::{bare_from, extend_all};
 use crate::find::begin;
-use crate::marks::no_marks;
+use crate::leading::{Leading, leading_marks, leading_of, leading_rows};
 use crate::parts::{Lists, counts_of};
 use chase_laws::{Pattern, Places, all_valid};
 use gk_base::NoMemory;
@@ -49,33 +50,48 @@ fn add_at(
     Ok(())
 }
 
-/// Adds the same for each of some names.
+/// Adds the same for each of some rows of leading values: at its name, with its values.
 fn add_at_each(
     graph: &Graph,
     pattern: &Pattern,
     plan: &Plan,
     bare: usize,
-    names: &[u32],
+    leading: &[Leading],
+    leads: &ValuationRows,
     lists: &mut Lists,
     rows: &mut ValuationRows,
 ) -> Result<(), NoMemory>
     requires plan { IsPlanOf pattern.now plan.now }
     requires bare { AreBareFrom plan.now.shape bare }
+    requires leading { All (IsLeading pattern.now) leading.now }
+    requires leads { leads.now.value_count ≡ length leading.now }
     requires counts { HasCounts pattern.now rows.old.value_count rows.old.image_count }
-    ensures { OnOk result (AddsSome graph.now pattern.now (IsAtOne graph.now pattern.now names.now) rows.old rows.new) }
+    ensures { OnOk result (AddsSome graph.now pattern.now (IsAtRow graph.now pattern.now leading.now leads.now.key leads.now.parts) rows.old rows.new) }
 {
     // For the proof alone: a pattern has at most 16 slots.
     let _ = pattern.slots();
-    let marks = no_marks();
-    for name in names {
-        add_at(graph, pattern, plan, &marks, bare, *name, lists, rows)?;
+    for row in 0..leads.len() {
+        let marks = leading_marks(pattern, plan, leading, leads.values(row));
+        add_at(
+            graph,
+            pattern,
+            plan,
+            &marks,
+            bare,
+            leads.name(row),
+            lists,
+            rows,
+        )?;
     }
     Ok(())
 }
 
-/// Rows of a key's valuations: of all at different names that have the same values, and of some others.
-fn rows_of_key(
+/// Rows of a key's valuations: of all at different names that have the same values, and of some others. Only names are asked whose
+/// leading values another name has.
+fn rows_of_key<R: Threads + Sync>(
+    rt: &R,
     alloc: Global,
+    threads: u32,
     graph: &Graph,
     pattern: &Pattern,
     plan: &Plan,
@@ -85,11 +101,17 @@ fn rows_of_key(
     ensures { IfOk result (λ rows. AreRowsOf graph.now pattern.now key rows) }
 {
     let counts = counts_of(pattern);
+    let slots = leading_of(alloc, pattern)?;
+    let leading = slots.as_slice();
+    let names = graph.with_type(pattern.designated_type());
+    let leads = leading_rows(alloc, graph, pattern, leading, key, names)?;
+    let shared = keep_shared(rt, alloc, threads, leads)?;
     let mut rows = ValuationRows::new(alloc, key, counts.values, counts.images);
     let mut lists = Lists::new(alloc);
-    let names = graph.with_type(pattern.designated_type());
     let bare = bare_from(plan);
-    add_at_each(graph, pattern, plan, bare, names, &mut lists, &mut rows)?;
+    add_at_each(
+        graph, pattern, plan, bare, leading, &shared, &mut lists, &mut rows,
+    )?;
     Ok(rows)
 }
 
@@ -105,7 +127,7 @@ fn shared_rows_of_key<R: Threads + Sync>(
     ensures { IfOk result (λ rows. AreSharedRowsOf graph.now pattern.now key rows) }
 {
     let plan = Plan::new(alloc, pattern)?;
-    let rows = rows_of_key(alloc, graph, pattern, &plan, key)?;
+    let rows = rows_of_key(rt, alloc, threads, graph, pattern, &plan, key)?;
     let kept = keep_shared(rt, alloc, threads, rows)?;
     Ok(kept)
 }

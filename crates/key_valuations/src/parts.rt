@@ -76,13 +76,7 @@ pub(crate) fn counts_of(pattern: &Pattern) -> Counts
 }
 
 /// Adds the value and the image of a name at slot `s`, as far as there are.
-fn add_part(
-    graph: &Graph,
-    slot: Slot,
-    s: usize,
-    n: u32,
-    lists: &mut Lists,
-) -> Result<(), NoMemory>
+fn add_part(graph: &Graph, slot: Slot, s: usize, n: u32, lists: &mut Lists) -> Result<(), NoMemory>
     requires { FitsSlot graph.now slot n }
     ensures values { OnOk result (lists.new.values.items ≡ lists.old.values.items ++ value_at graph.now (Some slot) n) }
     ensures images { OnOk result (lists.new.images.items ≡ lists.old.images.items ++ image_at s (Some slot) n) }

@@ -1,12 +1,10 @@
 -- Every number that an edge allows was tried.
 use Rattle.std.proofs.Common.{List, [], ◌∷◌, ◌++◌, ℕ, Some, Option, slice_get, Contains, ◌≡◌, ◌<◌, get_or, length, slice_index, sym, ◌∙◌, ap, subst, true≢false, arith}
 use Rattle.std.proofs.lemmas.List.{take_all}
-use Rattle.std.proofs.lemmas.List.Elements.{Contains-get_or}
 use Rattle.key_plan.specs.Route.{IsBlock}
-use Rattle.key_valuations.specs.Part.{HoldsAt}
-use Rattle.key_valuations.specs.Marks.{OnlyOne, IsMarkedPart, IsCompletedBy, mark_at}
+use Rattle.key_valuations.specs.Marks.{OnlyOne, IsCompletedBy, mark_at}
 use Rattle.key_valuations.proofs.PartLaws.{popped}
-use Rattle.key_valuations.proofs.CompleteLaws.{completes_before, next, none_more}
+use Rattle.key_valuations.proofs.CompleteLaws.{next, none_more}
 use Rattle.key_valuations.proofs.complete.+complete.Goals as goal
 use Rattle.key_valuations.proofs.complete.+complete.Goals.{then-goes_on_marked+else-complete, else-goes_on_marked}
 

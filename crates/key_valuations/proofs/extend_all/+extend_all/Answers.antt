@@ -1,9 +1,9 @@
 -- Every number that an edge allows is tried.
-use Rattle.std.proofs.Common.{List, [], ◌∷◌, ◌++◌, ℕ, Option, slice_get, Contains, ◌≡◌, ◌<◌, ◌+◌, Some, get_or, take, length, slice_index, refl, sym, ◌∙◌, ap, subst, true≢false, arith}
+use Rattle.std.proofs.Common.{List, [], ◌∷◌, ◌++◌, ℕ, Option, slice_get, ◌≡◌, ◌<◌, ◌+◌, Some, get_or, take, length, slice_index, refl, sym, ◌∙◌, ap, subst, true≢false, arith}
 use Rattle.std.proofs.lemmas.List.{take_all}
 use Rattle.key_plan.specs.Route.{IsBlock}
 use Rattle.valuation_groups.specs.Rows.{KeyRows}
-use Rattle.key_valuations.specs.Marks.{OnlyOne, IsMarkedPart, mark_at}
+use Rattle.key_valuations.specs.Marks.{OnlyOne, mark_at}
 use Rattle.key_valuations.specs.Counts.{HasCounts}
 use Rattle.key_valuations.specs.Listing.{IsReached, AddsParts}
 use Rattle.key_valuations.proofs.PartLaws.{popped}

@@ -1,7 +1,6 @@
 -- All that begin with the list have the parts of the one that was found.
-use Rattle.std.proofs.Common.{ℕ, arith}
 use Rattle.key_valuations.specs.Listing.{IsReached}
-use Rattle.key_valuations.proofs.Moves.{ready, begins}
+use Rattle.key_valuations.proofs.Moves.{ready}
 use Rattle.key_valuations.proofs.FindLaws.{placed_valuation}
 use Rattle.key_valuations.proofs.ListingLaws.{adds_none, adds_one, same_parts}
 use Rattle.key_valuations.proofs.extend_all.add_completion.Goals as goal

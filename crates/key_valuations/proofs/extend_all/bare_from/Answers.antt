@@ -1,8 +1,7 @@
 -- From the last place on.
-use Rattle.std.proofs.Common.{ℕ, Some, ◌≡◌, ◌-◌, inl, inr, slice_get, length, sym, ◌∙◌, ap, subst, arith}
+use Rattle.std.proofs.Common.{◌≡◌, ◌-◌, inl, inr, slice_get, sym, ◌∙◌, ap, subst, arith}
 use Rattle.std.proofs.lemmas.Bool.{cases_eq}
 use Rattle.std.proofs.lemmas.Option.{slice_get_within}
-use Rattle.chase_laws.specs.declared.pattern.Slot.{Slot}
 use Rattle.key_valuations.specs.Listing.{IsBare}
 use Rattle.key_valuations.proofs.PartLaws.{some_same}
 use Rattle.key_valuations.proofs.extend_all.bare_from.Goals as goal

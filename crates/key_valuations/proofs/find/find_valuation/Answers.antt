@@ -1,6 +1,6 @@
 -- The lists in the order of the plan are those of the pattern under other numbers.
-use Rattle.std.proofs.Common.{[], ◌∷◌, ℕ, ◌≡◌, sym, ◌∙◌, subst, true≢false, arith}
-use Rattle.key_valuations.specs.Marks.{IsMarkedPart, IsCompletedBy}
+use Rattle.std.proofs.Common.{sym, ◌∙◌, subst, true≢false, arith}
+use Rattle.key_valuations.specs.Marks.{IsCompletedBy}
 use Rattle.key_valuations.proofs.Moves.{ready, begins, in_order}
 use Rattle.key_valuations.proofs.FindLaws.{placed_valuation, placed_marks, placed_first, ordered_begins}
 use Rattle.key_valuations.proofs.find.find_valuation.Goals as goal

@@ -1,5 +1,5 @@
 -- The lists that begin with the name, in the order of the plan and by slots.
-use Rattle.std.proofs.Common.{[], ◌∷◌, List, ℕ, sym, ◌∙◌, subst, true≢false, arith}
+use Rattle.std.proofs.Common.{[], ◌∷◌, List, ℕ, sym, ◌∙◌, subst, true≢false}
 use Rattle.key_valuations.specs.Listing.{IsReached, IsAt, AddsParts}
 use Rattle.key_valuations.proofs.Moves.{ready, begins, in_order}
 use Rattle.key_valuations.proofs.FindLaws.{placed_valuation, ordered_begins, ordered_placed}

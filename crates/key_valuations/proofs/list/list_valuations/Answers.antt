@@ -1,5 +1,5 @@
 -- Key by key.
-use Rattle.std.proofs.Common.{List, ℕ, Some, All, Contains, get_or, length, ◌≡◌, ◌<◌, ◌+◌, inl, inr, sym, ◌∙◌, ap, subst, arith}
+use Rattle.std.proofs.Common.{List, Some, All, get_or, ◌<◌, ◌+◌, inl, inr, sym, ◌∙◌, ap, subst, arith}
 use Rattle.std.proofs.lemmas.List.Elements.{Contains-get_or, All-contains}
 use Rattle.std.proofs.lemmas.Option.{slice_get-get_or, slice_get_within}
 use Rattle.chase_laws.specs.Shape.{Shape}

@@ -1,4 +1,4 @@
-use Rattle.std.proofs.Common.{ℕ, All, ◌<◌}
+use Rattle.std.proofs.Common.{All, ◌<◌}
 use Rattle.valuation_groups.specs.Groups.{GroupShape, listed_of, AreApart}
 use Rattle.key_valuations.proofs.GroupLaws.{AreListedTo}
 use Rattle.key_valuations.proofs.list.list_valuations.Given as goal

@@ -1,9 +1,9 @@
 -- One slot after another.
-use Rattle.std.proofs.Common.{List, ℕ, Option, set, ◌≡◌, ◌≢◌, ◌<◌, ◌+◌, length, slice_index, sym, ◌∙◌, ap, subst, arith}
+use Rattle.std.proofs.Common.{ℕ, set, ◌≡◌, ◌≢◌, ◌<◌, ◌+◌, length, slice_index, sym, ◌∙◌, ap, subst, arith}
 use Rattle.std.proofs.lemmas.Bool.{eqb-true, eqb-false}
 use Rattle.key_plan.specs.Route.{Route, IsPlanOf}
 use Rattle.chase_laws.specs.Shape.{Shape}
-use Rattle.key_valuations.proofs.MarkLaws.{AreMarksTo, marks_none, marks_more, marks_done, none_left, used_up}
+use Rattle.key_valuations.proofs.MarkLaws.{AreMarksTo, marks_more, marks_done, none_left, used_up}
 use Rattle.key_valuations.proofs.marks.marks_of.Goals as goal
 
 -- no two slots have one place

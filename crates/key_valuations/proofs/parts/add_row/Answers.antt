@@ -1,5 +1,5 @@
 -- One slot after another.
-use Rattle.std.proofs.Common.{[], ◌∷◌, ◌++◌, List, ℕ, Option, Some, ◌≡◌, length, slice_get, slice_index, sym, ◌∙◌, ap, ap₂, arith}
+use Rattle.std.proofs.Common.{ℕ, Some, ◌≡◌, length, slice_get, slice_index, sym, ◌∙◌, ap, ap₂, arith}
 use Rattle.std.specs.List.{flat_map, range_with_len}
 use Rattle.chase_laws.specs.Signature.{value_at, image_at, values_of, images_of}
 use Rattle.key_valuations.proofs.MarkLaws.{value_piece, image_piece, pieces_more}

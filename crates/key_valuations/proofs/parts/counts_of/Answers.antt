@@ -1,5 +1,5 @@
 -- One slot after another.
-use Rattle.std.proofs.Common.{ℕ, Option, ◌≡◌, length, slice_get, slice_index, sym, ap, subst, arith}
+use Rattle.std.proofs.Common.{ℕ, Option, ◌≡◌, length, slice_index, sym, ap, subst, arith}
 use Rattle.std.specs.List.{flat_map, range_with_len}
 use Rattle.chase_laws.specs.declared.pattern.Slot.{Slot}
 use Rattle.chase_laws.specs.Signature.{value_at, image_at}
