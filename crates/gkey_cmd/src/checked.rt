@@ -10,7 +10,7 @@ use crate::ending::Answer;
 use gk_base::NoMemory;
 use key_lang::KeyFile;
 use proof_check::{Checker, Reason, Verdict};
-use proof_graph::Proof;
+use proof_file::Proof;
 use std::alloc::Global;
 
 /// The answer that goes with a verdict.
