@@ -1,6 +1,7 @@
 mod Numbers
 mod Fronts
 mod Deciding
+mod Caused
 mod RefusedOnce
 mod Running
 mod Growing

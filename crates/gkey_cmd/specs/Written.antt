@@ -10,10 +10,9 @@ use Rattle.gkey_cmd.specs.Texts.{usage, help_text, version_text, refused_text}
 use Rattle.gkey_cmd.specs.Reading.{NamedFiles, GraphSays, KeyFileSays, ProofFileSays, left_by, AllAccepted, FirstRefused}
 use Rattle.proof_graph.specs.Steps.{StepShape}
 use Rattle.proof_graph.specs.CanonicalProof.{proof_text}
-use Rattle.proof_check.specs.Verdict.{verdict}
 use Rattle.gkey_cmd.specs.Matched.{IsReport, HasTooManyPairs}
 use Rattle.gkey_cmd.specs.Proved.{IsProofText}
-use Rattle.gkey_cmd.specs.Checked.{verdict_answer, verdict_text}
+use Rattle.gkey_cmd.specs.Checked.{IsChecked}
 use Rattle.gkey_cmd.specs.Demo.{IsDemoText}
 use Rattle.gkey_cmd.specs.Merged.{IsMergedOutput}
 use Rattle.gkey_cmd.specs.Entities.{NamesOne}
@@ -114,7 +113,7 @@ Answers limits files (Proving graph keys) NotTheSame output = ⊥
 Answers limits files (Checking graph keys proof) answer output =
     (triples : List Triple) × (key_list : List KeyShape) × (steps : List StepShape) × GraphSays limits (bytes_of files graph) (Ok triples)
     × KeyFileSays limits (bytes_of files keys) (Ok key_list) × ProofFileSays limits (bytes_of files proof) (Ok steps)
-    × (answer ≡ verdict_answer (verdict triples key_list steps)) × (output ≡ verdict_text (verdict triples key_list steps))
+    × IsChecked triples key_list steps answer output
 Answers limits files (Converting proof) Given output =
     (steps : List StepShape) × ProofFileSays limits (bytes_of files proof) (Ok steps) × (output ≡ proof_text steps)
 Answers limits files (Converting proof) NotAccepted output = ⊥
