@@ -15,3 +15,9 @@ mod WholeWords
 mod Finding
 mod Reasons
 mod LastCalls
+mod OneList
+mod OneReport
+mod OneMerged
+mod OneDemo
+mod OneAnswer
+mod OneRun

@@ -177,6 +177,20 @@ abbrev pub IsAnswered : Option Wanted → NamedFiles → Limits → Answer → L
 IsAnswered None files limits answer output = ⊥
 IsAnswered (Some command) files limits answer output = AreAccepted (Some command) files limits × Answers limits files command answer output
 
+-- One output goes with the files and the limits: so it is with every command but `prove` and `why`, since of proofs there may be
+-- several.
+abbrev pub HasOneOutput : Wanted → Type 0
+HasOneOutput (Matching graph keys) = ⊤
+HasOneOutput (Proving graph keys) = ⊥
+HasOneOutput (Checking graph keys proof) = ⊤
+HasOneOutput (Converting proof) = ⊤
+HasOneOutput (Demonstrating n) = ⊤
+HasOneOutput (Merging graph keys) = ⊤
+HasOneOutput (Explaining graph keys first second) = ⊥
+HasOneOutput (Growing graph more keys) = ⊤
+HasOneOutput Helping = ⊤
+HasOneOutput TellingVersion = ⊤
+
 -- What a run writes, one case for each way in which it may end: the words ask for no command, the command is refused, or
 -- it is answered.
 pub data WritesFor (command : Option Wanted) (files : NamedFiles) (limits : Limits) (status : ℕ) (output error : List ℕ) : Type 0 where
