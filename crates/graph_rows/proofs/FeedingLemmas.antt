@@ -139,34 +139,6 @@ pub fewer_left : (before after : Reading) (taken more : List Triple) (seen piece
     HasRead before taken seen → HasRead after more (seen ++ piece) → 0 < length piece → left_of after.limits.bytes after.so_far < left_of before.limits.bytes before.so_far
 fewer_left before after taken more seen piece same ok still h k some = fewer before.limits after.limits before.so_far after.so_far taken more seen piece same ok still h k some
 
-module _ {K : Type 0} (shelf : Shelf.Ghosts K) (old mid new : K) (limits : Limits) (room : ℕ) (before after : Reading) (Kept : List Triple → Type 0) (taken : List Triple) (seen : List ℕ)
-    (so_far : HasFed shelf old mid limits before Kept taken seen) (count : shelf.faults mid ≡ shelf.faults old) (same : after.limits ≡ before.limits) where
-  -- one piece more
-  pub fed_more : (n : ℕ) (next : FeedsNext shelf mid new room before after (Ok n)) → HasFed shelf old new limits after Kept taken (seen ++ next.0)
-  fed_more n next =
-      let has = next.1.fed taken seen so_far.has in record {
-        read = were_read_more shelf old mid new seen next.0 so_far.read next.1.read;
-        has = has;
-        stand = so_far.stand;
-        same = same ∙ so_far.same;
-        not_refused = subst (λ l. IsOpen l (seen ++ next.0)) so_far.same (next.3 taken seen so_far.has);
-      }
-
-  -- the file is not read on
-  pub fed_no_more : (stop : Stop (FileFault ReadRefusal)) (Left : List Triple → Type 0) → room ≤ 65536 → FeedsNext shelf mid new room before after (Err stop) → FeedsAll {A = Unit {0}} shelf old new limits after Left (Err stop)
-  fed_no_more NoMemory Left few next = next ∙ count
-  fed_no_more (Fault Failed) Left few next = (subst (λ n. Rose n (shelf.faults new)) count next.0, next.1)
-  fed_no_more (Fault (Refused refusal)) Left few next =
-      let inside = next.1.within in (
-        next.1.count ∙ count,
-        (
-          seen ++ next.0,
-          were_read_more shelf old mid new seen next.0 so_far.read next.1.read,
-          subst (λ l. Refuses l (seen ++ next.0) refusal) (same ∙ so_far.same) (next.2 taken (seen ++ next.0) (next.1.fed taken seen so_far.has)),
-          open_before limits seen next.0 so_far.not_refused (omega arith),
-        ),
-      )
-
 -- the triples that were taken are numbered
 pub fed_taken : {K : Type 0} (shelf : Shelf.Ghosts K) (old now : K) (limits : Limits) (before after : Reading) (Kept Later : List Triple → Type 0) (taken triples : List Triple) (seen : List ℕ) →
     HasFed shelf old now limits before Kept taken seen → after.limits ≡ before.limits →
@@ -197,23 +169,6 @@ taken_few reader old rows taken triples seen running room go h =
     let d = room.2 in
     let n = names_few rows (room.0 ++ taken) (go room.0 room.1) in
     omega arith
-
--- the file was read to its end
-pub fed_all : {K : Type 0} (shelf : Shelf.Ghosts K) (old mid new : K) (limits : Limits) (room n : ℕ) (before after taker : Reading) (Kept Later : List Triple → Type 0) (taken now : List Triple) (seen : List ℕ) →
-    HasFed shelf old mid limits before Kept taken seen → shelf.faults mid ≡ shelf.faults old → (next : FeedsNext shelf mid new room before after (Ok n)) → n ≡ 0 →
-    HasFed shelf old new limits taker Later now (seen ++ next.0) → FeedsAll {A = Unit {0}} shelf old new limits taker Later (Ok tt)
-fed_all shelf old mid new limits room n before after taker Kept Later taken now seen h count next z fed = (
-  next.1.count ∙ count,
-  (
-    now,
-    seen ++ next.0,
-    fed.read,
-    all_fed (shelf.rest old) (shelf.rest mid) seen next.0 h.read (next.6 z) (sym next.2 ∙ z),
-    fed.not_refused,
-    fed.has,
-    fed.stand,
-  ),
-)
 
 -- before the first batch
 pub fed_none : {K : Type 0} (shelf : Shelf.Ghosts K) (now : K) (reader : Reading) (rows : Rows) → HasRead reader [] [] → HasFed shelf now now reader.limits reader (GoOn rows rows) [] []
@@ -273,8 +228,8 @@ module _ {K : Type 0} (shelf : Shelf.Ghosts K) (old mid new : K) (room : ℕ) (f
     gone ++ next.0,
     feeds_more next.0 next.1,
     open_more next.0 next.3,
-    next.5,
-    all_fed (shelf.rest old) (shelf.rest mid) gone next.0 so_far.read (next.6 z) (sym next.2 ∙ z),
+    next.4,
+    all_fed (shelf.rest old) (shelf.rest mid) gone next.0 so_far.read (next.5 z) (sym next.2 ∙ z),
   )
 
 -- what was left is all that was read

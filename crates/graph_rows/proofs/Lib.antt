@@ -2,5 +2,4 @@ mod Told
 mod RowsInNumbers
 mod TwoGraphs
 mod FeedingLemmas
-mod PartLemmas
 pub mod CallerLemmas

@@ -46,7 +46,7 @@ pub record Feeds {K : Type 0} (shelf : Shelf.Ghosts K) (before after : K) (room 
 abbrev pub FeedsNext : {K : Type 0} (shelf : Shelf.Ghosts K) (before after : K) (room : ℕ) (reader fed_reader : Reading) → Result ℕ (Stop (FileFault ReadRefusal)) → Type 0
 FeedsNext shelf before after room reader fed_reader (Ok n) = (piece : List ℕ) × Feeds shelf before after room reader fed_reader piece
     × (n ≡ length piece) × ((taken : List Triple) (seen : List ℕ) → HasRead reader taken seen → IsOpen reader.limits (seen ++ piece))
-    × IsOk reader.so_far × IsOk fed_reader.so_far × (n ≡ 0 → AreAll shelf before [])
+    × IsOk fed_reader.so_far × (n ≡ 0 → AreAll shelf before [])
 FeedsNext shelf before after room reader fed_reader (Err NoMemory) = shelf.faults after ≡ shelf.faults before
 FeedsNext shelf before after room reader fed_reader (Err (Fault Failed)) = ShelfFails shelf before after
 FeedsNext shelf before after room reader fed_reader (Err (Fault (Refused refusal))) = (piece : List ℕ) × Feeds shelf before after room reader fed_reader piece

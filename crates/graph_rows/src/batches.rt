@@ -1,5 +1,6 @@
-//! Reading and numbering at once: while the triples of one batch of pieces are numbered in a second thread, the pieces of the
-//! next are read and judged in the caller's. Where more threads may be used, they help the second one to look the terms up.
+//! Reading and numbering, a batch of pieces after the other. While the triples of one are numbered in a second thread, the pieces of
+//! the next are read and judged in the caller's. Where more threads may be used, they help the second one to look the terms up; with
+//! one thread each is numbered before the next is read.
 
 ghost use Rattle.std.specs.Prelude.{◌≡◌, ◌+◌, ◌*◌, ◌<◌, ◌≤◌, ◌^◌, ◌++◌, [], List, length, vec_len, IsOk, IsErr, OnOk, Err};
 ghost use Rattle.gk_base.specs.declared.stop.Stop.TheVariants as stop;
@@ -10,29 +11,24 @@ ghost use Rattle.graph_rows.specs.Feeding.{FeedsBatch, FeedsAll};
 
 use crate::pieces::feed_next;
 use crate::rows::Rows;
-use crate::second_reader::{SecondReader, both_sides, read_rears};
 use gk_base::{NoMemory, ReadRefusal};
 use gk_io::{FileStop, Shelf};
 use nt_reader::Reader;
-use std::alloc::Global;
-use std::sync::Wait;
 use std::thread::{Threads, join_mut};
 use term_list::Triples;
 
-/// The first batch ends with the piece that makes it so many bytes: until it is read, nothing is numbered.
+/// The first batch of several threads ends with the piece that makes it so many bytes: until it is read, nothing is numbered.
 const FIRST: usize = 131_072;
 
-/// Each batch is twice as large as the one before, up to so many bytes. Each but the last costs the start of a thread, which the
+/// Each batch of theirs is twice as large as the one before, up to so many bytes. Each but the last costs the start of a thread, which the
 /// system may put beside the caller's for some milliseconds before it gives it a processor of its own; so they are to be few.
 /// While the last is numbered nothing is read, and two batches lie in memory; so they are not to be larger.
 const LARGEST: usize = 4_194_304;
 
 /// Reads and feeds the pieces of a batch of so many bytes, or those that are left, and answers whether the file is at its end.
-fn feed_batch<S: Shelf, R: Wait>(
-    rt: &R,
+fn feed_batch<S: Shelf>(
     shelf: &mut S,
     buf: &mut Vec<u8>,
-    second: &mut Option<SecondReader>,
     reader: &mut Reader,
     size: usize,
 ) -> Result<bool, FileStop<ReadRefusal>>
@@ -48,7 +44,7 @@ fn feed_batch<S: Shelf, R: Wait>(
 {
     let mut bytes = 0;
     'pieces: while bytes < size {
-        let count = feed_next(rt, shelf, buf, second, reader)?;
+        let count = feed_next(shelf, buf, reader)?;
         if count == 0 {
             return Ok(true);
         }
@@ -72,14 +68,14 @@ fn answer_of(
     Ok(at_end)
 }
 
-/// Numbers these triples, behind those that came before, while the next batch is read and fed. It leaves the list empty, and
-/// answers whether the file is at its end. What stops the reading is the answer, whatever became of the numbering.
-fn number_and_feed<S: Shelf, R: Threads + Wait + Sync>(
+/// Numbers these triples, behind those that came before, while the next batch is read and fed, or before it where there is one
+/// thread. It leaves the list empty, and answers whether the file is at its end. What stops the reading is the answer, whatever
+/// became of the numbering meanwhile.
+fn number_and_feed<S: Shelf, R: Threads + Sync>(
     rt: &R,
     threads: u32,
     shelf: &mut S,
     buf: &mut Vec<u8>,
-    second: &mut Option<SecondReader>,
     reader: &mut Reader,
     triples: &mut Triples,
     rows: &mut Rows,
@@ -98,25 +94,42 @@ fn number_and_feed<S: Shelf, R: Threads + Wait + Sync>(
     ensures empty { OnOk result (triples.new ≡ []) }
     ensures stand { OnOk result ((before : List AnyTriple) → StandFor rows.old before → StandFor rows.new (before ++ triples.old)) }
 {
-    let theirs = threads.saturating_sub(1);
+    if threads < 2 {
+        rows.add(rt, 1, triples)?;
+        return feed_batch(shelf, buf, reader, size);
+    }
+    let theirs = threads - 1;
     let (numbered, fed) = join_mut(
         rt,
         &mut || -> Result<(), NoMemory>
             requires { length rows.now.names + 3 * length triples.now < 2 ^ 32 }
         { rows.add(rt, theirs, triples) },
-        &mut || feed_batch(rt, shelf, buf, second, reader, size),
+        &mut || feed_batch(shelf, buf, reader, size),
     );
     answer_of(numbered, fed)
 }
 
+/// How many bytes the batch has that comes behind one of so many, or the first, behind none. With one thread each is a piece:
+/// what is made of it is still near when it is numbered.
+fn next_size(threads: u32, size: usize) -> usize
+    requires { size ≤ LARGEST }
+    ensures { (0 < result) × (result ≤ LARGEST) }
+{
+    if threads < 2 {
+        1
+    } else {
+        LARGEST.min(FIRST.max(size * 2))
+    }
+}
+
 /// Reads on to the end of the file. The triples that a batch ends are numbered, behind those that are there, while the next
-/// batch is read. So each lies in one of two lists, that of the reader or this one, which change places between two batches.
-pub(crate) fn feed_in_batches<S: Shelf, R: Threads + Wait + Sync>(
+/// batch is read, or before it. So each lies in one of two lists, that of the reader or this one, which change places between two
+/// batches.
+pub(crate) fn feed_in_batches<S: Shelf, R: Threads + Sync>(
     rt: &R,
     threads: u32,
     shelf: &mut S,
     buf: &mut Vec<u8>,
-    second: &mut Option<SecondReader>,
     reader: &mut Reader,
     triples: &mut Triples,
     rows: &mut Rows,
@@ -132,83 +145,15 @@ pub(crate) fn feed_in_batches<S: Shelf, R: Threads + Wait + Sync>(
     ensures limits { reader.new.limits ≡ reader.old.limits }
     ensures feeds { FeedsAll S.Shelf shelf.old shelf.new reader.old.limits reader.new (GoOn rows.old rows.new) result }
 {
-    let mut size = FIRST;
-    let mut at_end = feed_batch(rt, shelf, buf, second, reader, size)?;
+    let mut size = next_size(threads, 0);
+    let mut at_end = feed_batch(shelf, buf, reader, size)?;
     'batches: loop {
         reader.take_triples(triples);
         if at_end {
             rows.add(rt, threads, triples)?;
             return Ok(());
         }
-        size = LARGEST.min(size * 2);
-        at_end = number_and_feed(rt, threads, shelf, buf, second, reader, triples, rows, size)?;
+        size = next_size(threads, size);
+        at_end = number_and_feed(rt, threads, shelf, buf, reader, triples, rows, size)?;
     }
-}
-
-/// Reads on to the end of the file as `feed_in_batches` does, and lets the second thread that reads go then.
-fn feed_to_end<S: Shelf, R: Threads + Wait + Sync>(
-    rt: &R,
-    threads: u32,
-    shelf: &mut S,
-    buf: &mut Vec<u8>,
-    second: &mut Option<SecondReader>,
-    reader: &mut Reader,
-    triples: &mut Triples,
-    rows: &mut Rows,
-) -> Result<(), FileStop<ReadRefusal>>
-    requires some { 0 < vec_len buf.old }
-    requires few { vec_len buf.old ≤ 65536 }
-    requires room { LeaveRoom rows.old reader.old.limits.triples }
-    requires fresh { HasRead reader.old [] [] }
-    requires running { IsOk reader.old.so_far }
-    requires none { triples.old ≡ [] }
-    ensures held { S.held shelf.new ≡ S.held shelf.old }
-    ensures asked { S.asked shelf.new ≡ S.asked shelf.old }
-    ensures limits { reader.new.limits ≡ reader.old.limits }
-    ensures feeds { FeedsAll S.Shelf shelf.old shelf.new reader.old.limits reader.new (GoOn rows.old rows.new) result }
-{
-    let answer = feed_in_batches(rt, threads, shelf, buf, second, reader, triples, rows);
-    *second = None;
-    answer
-}
-
-/// Reads on to the end of the file as `feed_in_batches` does, while a second thread reads parts of the pieces, which is one less
-/// for the numbering.
-pub(crate) fn feed_with_second<S: Shelf, R: Threads + Wait + Sync>(
-    rt: &R,
-    alloc: Global,
-    threads: u32,
-    shelf: &mut S,
-    buf: &mut Vec<u8>,
-    reader: &mut Reader,
-    triples: &mut Triples,
-    rows: &mut Rows,
-) -> Result<(), FileStop<ReadRefusal>>
-    requires some { 0 < vec_len buf.old }
-    requires few { vec_len buf.old ≤ 65536 }
-    requires room { LeaveRoom rows.old reader.old.limits.triples }
-    requires fresh { HasRead reader.old [] [] }
-    requires running { IsOk reader.old.so_far }
-    requires none { triples.old ≡ [] }
-    ensures held { S.held shelf.new ≡ S.held shelf.old }
-    ensures asked { S.asked shelf.new ≡ S.asked shelf.old }
-    ensures limits { reader.new.limits ≡ reader.old.limits }
-    ensures feeds { FeedsAll S.Shelf shelf.old shelf.new reader.old.limits reader.new (GoOn rows.old rows.new) result }
-{
-    let (second, to_read, send_back) = both_sides(alloc)?;
-    let mut second = Some(second);
-    let others = threads.saturating_sub(1);
-    join_mut(
-        rt,
-        &mut || read_rears(rt, alloc, &to_read, &send_back),
-        &mut || -> Result<(), FileStop<ReadRefusal>>
-            requires some { 0 < vec_len buf.now }
-            requires few { vec_len buf.now ≤ 65536 }
-            requires room { LeaveRoom rows.now reader.now.limits.triples }
-            requires fresh { HasRead reader.now [] [] }
-            requires running { IsOk reader.now.so_far }
-            requires none { triples.now ≡ [] }
-        { feed_to_end(rt, others, shelf, buf, &mut second, reader, triples, rows) },
-    )
-    .1
 }

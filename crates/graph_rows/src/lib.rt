@@ -6,8 +6,7 @@
 //! - `loading`: the first bytes of a file
 //! - `rows`: triples in numbers
 //! - `pieces`: a graph's rows, read piece by piece
-//! - `batches`: reading and numbering at once, in two threads
-//! - `second_reader`: a second thread that reads and judges
+//! - `batches`: reading and numbering by turns, or at once in two threads
 //! - `numbered_keys`: keys in numbers over the names of a graph
 //! - `numbering`: names, rows or graph, and patterns in numbers
 //! - `growth`: names, two graphs of which the second has all rows of the first, and patterns in numbers
@@ -20,7 +19,6 @@ mod numbered_keys;
 mod numbering;
 mod pieces;
 mod rows;
-mod second_reader;
 
 pub use growth::{Growth, number_growth};
 pub use loading::load;

@@ -1,7 +1,6 @@
 pub mod CallerLemmas
 mod CutLemmas
 mod FileLemmas
-mod JoinLemmas
 mod LineAnswers
 mod LineLemmas
 mod LinedLemmas

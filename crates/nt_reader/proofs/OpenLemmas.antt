@@ -113,7 +113,7 @@ module _ (reading : Reading) (limits : Limits) (running : Bool) (state : State) 
   running_is : running ≡ true → reading.so_far ≡ Ok (front_of state)
   running_is e = ap (λ (r : Reading). r.so_far) (sym is) ∙ ap (λ b. so_far_of b state stop) e
 
-  pub limits_are : reading.limits ≡ limits
+  limits_are : reading.limits ≡ limits
   limits_are = ap (λ (r : Reading). r.limits) (sym is)
 
   -- a running reader has what its state has

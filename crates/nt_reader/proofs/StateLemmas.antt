@@ -40,7 +40,7 @@ refused_after most taken triples room line fault sum r = record {
 }
 
 -- from the cut of the bytes to the state after them
-pub after : (limits : Limits) (new : State) (taken : List Triple) (bytes : List ℕ) (cut : Cut) → cut_of bytes ≡ cut → new.bytes ≡ length bytes → length bytes ≤ limits.bytes
+after : (limits : Limits) (new : State) (taken : List Triple) (bytes : List ℕ) (cut : Cut) → cut_of bytes ≡ cut → new.bytes ≡ length bytes → length bytes ≤ limits.bytes
     → new.kept.items ≡ cut.rest → new.line ≡ length cut.ended + 1 → new.after_return ≡ cut.returned
     → AreGood cut.ended (taken ++ new.triples) → length taken + new.room ≡ limits.triples → length new.triples ≤ new.room
     → IsFrontOf limits (front_of new) taken bytes

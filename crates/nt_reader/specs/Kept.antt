@@ -1,5 +1,5 @@
 -- What a reader stands for, by what it was fed: this project's own words.
-use Rattle.std.specs.Prelude.{◌≡◌, ℕ, ◌+◌, ◌≤◌, false, List, [], ◌++◌, length, Result, Ok, Err}
+use Rattle.std.specs.Prelude.{◌≡◌, ℕ, ◌+◌, ◌≤◌, List, [], ◌++◌, length, Result, Ok, Err}
 use Rattle.gk_base.specs.declared.term.Triple.{Triple}
 use Rattle.gk_base.specs.declared.limits.Limits.{Limits}
 use Rattle.gk_base.specs.declared.read_fault.ReadRefusal.{ReadRefusal}
@@ -37,11 +37,3 @@ HasRead reading taken bytes = IsSo (HasCome reading.limits taken bytes) reading.
 abbrev pub FinishSays : Limits → List Triple → List ℕ → Result (List Triple) ReadRefusal → Type 0
 FinishSays limits taken bytes (Ok triples) = FileSays limits bytes (Ok (taken ++ triples))
 FinishSays limits taken bytes (Err refusal) = FileSays limits bytes (Err refusal)
-
--- what is kept of the bytes from the beginning of a line on may stand behind what is kept of those before that line, within the
--- limits: no line has begun there, and no carriage return came last, to which a line feed would belong
-pub record CanJoin (limits : Limits) (front more : Front) : Type 0 where
-  pub begins : front.rest ≡ []
-  pub unreturned : front.returned ≡ false
-  pub bytes : front.bytes + more.bytes ≤ limits.bytes
-  pub triples : length front.triples + length more.triples ≤ front.room

@@ -5,12 +5,10 @@
 //! - `line`, `lexed_triple`: one line
 //! - `reader`: a file in pieces
 //! - `state`: what is kept between pieces
-//! - `joining`: what one reader has kept behind what another has
 //! - `scan`: where a line ends
 //! - `laws`: what holds of lines and files for every text
 #![tactic(auto)]
 
-mod joining;
 mod laws;
 mod lexed_triple;
 mod line;

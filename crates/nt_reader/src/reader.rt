@@ -1,16 +1,14 @@
 //! Reads a file that comes in pieces.
 
-ghost use Rattle.std.specs.Prelude.{◌≡◌, ◌≢◌, ℕ, ◌≤◌, ◌+◌, ◌<◌, ◌^◌, ◌↔◌, List, [], ◌++◌, length, true, false, IfErr, OnErr, IsOk, Ok, Err};
+ghost use Rattle.std.specs.Prelude.{◌≡◌, ◌≢◌, ℕ, ◌≤◌, ◌+◌, ◌<◌, ◌^◌, ◌↔◌, List, [], ◌++◌, length, IfErr, IsOk, Err};
 ghost use Rattle.gk_base.specs.declared.term.Triple.{Triple};
 ghost use Rattle.gk_base.specs.declared.read_fault.ReadRefusal.{ReadRefusal};
 ghost use Rattle.gk_base.specs.Answers.{ReadStop, IsSo};
 ghost use Rattle.gk_base.specs.declared.stop.Stop.TheVariants.{NoMemory, Fault};
 ghost use Rattle.nt_reader.specs.Lines.{cut_of};
 ghost use Rattle.nt_reader.specs.File.{AreGood, Refuses, IsOpen};
-ghost use Rattle.nt_reader.specs.Reading.{Front};
-ghost use Rattle.nt_reader.specs.Kept.{HasRead, CanJoin, FinishSays};
+ghost use Rattle.nt_reader.specs.Kept.{HasRead, FinishSays};
 
-use crate::joining::{can_join, join};
 use crate::state::{State, end_line, feed_state};
 use gk_base::{Limits, ReadStop};
 use std::alloc::Global;
@@ -94,37 +92,6 @@ impl Reader {
             Err(stop) => self.stop = stop,
         }
         answer
-    }
-
-    /// Takes what another reader has read as read behind what it has read itself, as if it had been fed the same bytes. So the
-    /// front of a piece may be fed to one reader and its rear to another, at the same time.
-    ///
-    /// It answers whether it did. It does where it stands at the beginning of a line, and not right behind a carriage return, to
-    /// which a line feed would belong; where neither reader has failed; and where both together are within its own limits, those
-    /// of the other being of no account. Else it stays as it was, and the bytes are to be fed. After `NoMemory` it has failed.
-    pub fn join(&mut self, other: &Reader) -> Result<bool, gk_base::NoMemory>
-        ensures limits { self.new.limits ≡ self.old.limits }
-        // It has read its own bytes, and those of the other behind them.
-        ensures read { result ≡ Ok true → (taken : List Triple) (seen bytes : List ℕ) → HasRead self.old taken seen → HasRead other.now [] bytes →
-            HasRead self.new taken (seen ++ bytes) }
-        // Nothing that was read by then is refused.
-        ensures open { result ≡ Ok true → (taken : List Triple) (seen bytes : List ℕ) → HasRead self.old taken seen → HasRead other.now [] bytes →
-            IsOpen self.old.limits (seen ++ bytes) }
-        // It had not failed, and has not now.
-        ensures running { result ≡ Ok true → IsOk self.old.so_far × IsOk self.new.so_far }
-        ensures same { result ≡ Ok false → self.new ≡ self.old }
-        // It does so wherever it can.
-        ensures joins { (front more : Front) → self.old.so_far ≡ Ok front → other.now.so_far ≡ Ok more → CanJoin self.old.limits front more → result ≢ Ok false }
-        ensures err { OnErr result (self.new.so_far ≡ Err NoMemory) }
-    {
-        if !self.running || !other.running || !can_join(&self.limits, &self.state, &other.state) {
-            return Ok(false);
-        }
-        self.running = false;
-        self.stop = ReadStop::NoMemory;
-        join(&mut self.state, &other.state)?;
-        self.running = true;
-        Ok(true)
     }
 
     /// Moves the triples of the lines that have ended into an empty list, in order of their lines and with repeats, less

@@ -1,4 +1,4 @@
-ghost use Rattle.std.specs.Prelude.{◌+◌, ◌<◌, ◌^◌, length};
+ghost use Rattle.std.specs.Prelude.{◌+◌, ◌<◌, ◌^◌};
 
 use crate::sample::Sample;
 use gk_base::{LexFault, LexStop, Limits, NoMemory, ReadFault, ReadRefusal, ReadStop, Triple};
@@ -365,56 +365,4 @@ fn files_are_kept_to_limits(rt: HostRuntime) {
     assert!(rt; answers(alloc, 2000, 5, files::albums(), &many));
     let long = Expected::Refused(1, ReadFault::TooLong);
     assert!(rt; answers(alloc, 10, 9, files::albums(), &long));
-}
-
-/// The answer to a file in two parts, each fed to a reader of its own, or none where the first takes nothing of the second.
-fn in_joined_parts(
-    alloc: Global,
-    limits: &Limits,
-    front: &[u8],
-    rear: &[u8],
-) -> Option<Result<Terms, ReadStop>>
-    requires { limits.now.bytes + 1 < 2 ^ 64 }
-{
-    let mut reader = Reader::new(alloc, limits);
-    let _ = reader.feed(front);
-    let mut other = Reader::new(alloc, limits);
-    let _ = other.feed(rear);
-    match reader.join(&other) {
-        Ok(true) => Some(ended(alloc, reader)),
-        _ => None,
-    }
-}
-
-/// Whether the parts before and from this place on are joined exactly where a line begins there, and say what the whole says.
-fn are_joined_at(alloc: Global, text: &[u8], place: usize, count: usize) -> bool
-    requires { place < length text.now }
-{
-    let begins = place == 0 || text[place - 1] == b'\n';
-    match in_joined_parts(alloc, &Limits::STANDARD, &text[..place], &text[place..]) {
-        Some(answer) => begins && is_expected(answer, &Expected::Count(count)),
-        None => !begins,
-    }
-}
-
-#[test]
-fn readers_are_joined_where_a_line_begins(rt: HostRuntime) {
-    let alloc = rt.alloc();
-    'places: for place in 0..MIXED.len() {
-        assert!(rt; are_joined_at(alloc, MIXED, place, 2));
-    }
-    let few = Limits {
-        triples: 1,
-        ..Limits::STANDARD
-    };
-    assert!(rt;
-        in_joined_parts(
-            alloc,
-            &few,
-            b"<urn:a><urn:p>_:b.\n",
-            b"<urn:a><urn:p>_:c.\n"
-        )
-        .is_none()
-    );
-    assert!(rt; in_joined_parts(alloc, &few, b"<urn:a><urn:p>_:b.\n", b"#\n").is_some());
 }

@@ -41,7 +41,7 @@ pieces-preserved g c =
       some = i.some;
       few = i.few;
       same = f.limits ∙ i.same;
-      running = f.feeds.5;
+      running = f.feeds.4;
       within = (let t = c.pieces-test.true in let z = c.requires.size in let a = f.feeds.1.within in let b = f.feeds.2 in let d = c.deref_mut.ensures.len in let w = i.few in omega arith);
       fed = (
         i.fed.0 ++ f.feeds.0,

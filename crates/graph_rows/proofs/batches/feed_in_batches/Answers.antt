@@ -30,7 +30,7 @@ batches-init g c =
       none = c.requires.none;
       room = subst (λ (l : Limits). LeaveRoom a.rows.now l.triples) (sym f.limits) c.requires.room;
       running = f.feeds.3;
-      size = (omega arith, omega arith);
+      size = c.next_size-size.ensures;
       fed = (
         [],
         [] ++ f.feeds.0,
@@ -106,7 +106,7 @@ batches-preserved g c =
       none = f.empty;
       room = subst (λ (l : Limits). LeaveRoom rows l.triples) (sym (f.limits ∙ t.limits)) i.room;
       running = f.feeds.3;
-      size = (let m = c.min-size.ensures in let z = i.size in omega arith, let m = c.min-size.ensures in let z = i.size in omega arith);
+      size = c.next_size-size-in-batches.ensures;
       fed = (
         now,
         i.fed.1 ++ f.feeds.0,

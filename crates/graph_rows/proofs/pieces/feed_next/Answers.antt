@@ -13,7 +13,7 @@ returns-in_err-map_err-clause-feeds g c =
     let len : length (take n buf) ≡ n = length-take-le n buf inside in
     let p = err_from_is_err_and c.from_residual-in_err-map_err.result c.from_residual-in_err-map_err.ensures.1 in
     let m = mapped_stop c.feed.result c.in_err-map_err.field-0.0 c.in_err-map_err.ensures.cases in
-    rw (p.1, p.2, m.2) (feeds_no_more shelf c.args.shelf.now c.read.new.self (length c.args.buf.now) c.args.reader.now c.feed.new.reader (take n buf) m.0
+    rw (p.1, p.2, m.2) (feeds_no_more shelf c.args.shelf.now c.read.new.self (length c.args.buf.now) c.args.reader.now c.feed.new.self (take n buf) m.0
     (record {
       count = c.in_ok-count.ensures.cause.ok refl;
       read = piece_read (shelf.rest c.args.shelf.now) (shelf.rest c.read.new.self) (length c.args.buf.now) n buf c.in_ok-count.ensures.bytes;
@@ -39,7 +39,6 @@ returns-clause-feeds g c =
       },
       sym len,
       c.feed.ensures.open m.1,
-      (c.feed.ensures.running m.1).0,
-      (c.feed.ensures.running m.1).1,
+      c.feed.ensures.ok.0 m.1,
       nothing_read (shelf.rest c.args.shelf.now) (shelf.rest c.read.new.self) (length c.args.buf.now) n buf c.requires c.in_ok-count.ensures.bytes,
     )
