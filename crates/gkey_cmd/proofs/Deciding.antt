@@ -17,9 +17,9 @@ use Rattle.key_file.specs.Numbered.{names_for}
 use Rattle.key_lang.specs.KeyText.{KeysSay}
 use Rattle.key_lang.proofs.CallerLemmas.{keys_once}
 use Rattle.term_text.specs.ReadBack.{CanBeSpelled}
-use Rattle.proof_graph.specs.Steps.{StepShape}
-use Rattle.proof_graph.specs.CanonicalProof.{proof_text}
-use Rattle.proof_graph.specs.ProofText.{ProofSays}
+use Rattle.proof_file.specs.Steps.{StepShape}
+use Rattle.proof_file.specs.CanonicalProof.{proof_text}
+use Rattle.proof_file.specs.ProofText.{ProofSays}
 use Rattle.graph_rows.specs.GraphFile.{StopsSoon, StopsAtGraph}
 use Rattle.graph_rows.proofs.CallerLemmas.{told, told_more, told_both}
 use Rattle.gkey_cmd.specs.Commands.{Wanted, Matching, Proving, Checking, Converting, Demonstrating, Merging, Explaining, demo_graph_name, demo_keys_name, files_of}

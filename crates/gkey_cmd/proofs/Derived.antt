@@ -24,8 +24,8 @@ use Rattle.key_file.specs.Compile.{patterns_of}
 use Rattle.key_file.specs.Numbered.{names_for, graph_of}
 use Rattle.term_text.specs.ReadBack.{CanBeSpelled}
 use Rattle.graph_rows.specs.Numbered.{AreSameGraph}
-use Rattle.proof_graph.specs.Steps.{StepShape, term_at}
-use Rattle.proof_graph.specs.Tells.{AreSupported, TellsAll}
+use Rattle.proof_file.specs.Steps.{StepShape, term_at}
+use Rattle.proof_file.specs.Tells.{AreSupported, TellsAll}
 use Rattle.proof_check.specs.Verdict.{verdict}
 use Rattle.proof_check.specs.StepEntries.{step_entries}
 use Rattle.proof_check.specs.declared.verdict.Verdict.TheVariants.{Accepted}

@@ -17,10 +17,10 @@ use Rattle.key_lang.specs.declared.fault.KeyRefusal.{KeyRefusal}
 use Rattle.key_lang.specs.Answers.{stops, goes_on}
 use Rattle.key_lang.specs.OpenKey.{KeyState}
 use Rattle.key_lang.specs.KeyText.{LinesSay, KeysSay, start, ended, after_lines}
-use Rattle.proof_graph.specs.Steps.{StepShape}
-use Rattle.proof_graph.specs.ProofText.{ProofState, ProofLinesSay, ProofSays, proof_start, proof_ended, after_proof_lines, proof_or_refusal}
-use Rattle.proof_graph.specs.declared.fault.ProofFault.TheVariants as proof_fault
-use Rattle.proof_graph.specs.declared.fault.ProofRefusal.{ProofRefusal}
+use Rattle.proof_file.specs.Steps.{StepShape}
+use Rattle.proof_file.specs.ProofText.{ProofState, ProofLinesSay, ProofSays, proof_start, proof_ended, after_proof_lines, proof_or_refusal}
+use Rattle.proof_file.specs.declared.fault.ProofFault.TheVariants as proof_fault
+use Rattle.proof_file.specs.declared.fault.ProofRefusal.{ProofRefusal}
 use Rattle.gkey_cmd.specs.HowFar.{IsReadWithin, KeysLeft, ProofLeft}
 use Rattle.gkey_cmd.specs.Endings.{keys_ending, proof_ending, EndsAt}
 use Rattle.gkey_cmd.specs.declared.file.File.TheVariants.{Keys, Proof}

@@ -5,9 +5,9 @@ use Rattle.gk_base.specs.declared.term.Triple.{Triple}
 use Rattle.gk_io.specs.Files.{bytes_of}
 use Rattle.key_file.specs.KeyShape.{KeyShape}
 use Rattle.key_lang.proofs.CallerLemmas.{keys_once}
-use Rattle.proof_graph.specs.Steps.{StepShape}
-use Rattle.proof_graph.specs.CanonicalProof.{proof_text}
-use Rattle.proof_graph.proofs.CallerLemmas.{proof_once}
+use Rattle.proof_file.specs.Steps.{StepShape}
+use Rattle.proof_file.specs.CanonicalProof.{proof_text}
+use Rattle.proof_file.proofs.CallerLemmas.{proof_once}
 use Rattle.gkey_cmd.specs.Commands.{Wanted, Matching, Proving, Checking, Converting, Demonstrating, Merging, Explaining, Growing, Helping, TellingVersion, demo_graph_name, demo_keys_name}
 use Rattle.gkey_cmd.specs.Reading.{NamedFiles, GraphSays, KeyFileSays, ProofFileSays, left_by}
 use Rattle.gkey_cmd.specs.Matched.{IsReport}

@@ -19,12 +19,12 @@ use Rattle.key_file.specs.Compile.{patterns_of, key_terms}
 use Rattle.key_file.specs.Numbered.{names_for, graph_of}
 use Rattle.term_text.specs.ReadBack.{CanBeSpelled}
 use Rattle.graph_rows.specs.Numbered.{AreSameGraph}
-use Rattle.proof_graph.specs.Steps.{StepShape, term_at}
-use Rattle.proof_graph.specs.Tells.{AreSupported, TellsAll}
-use Rattle.proof_graph.specs.ProofText.{ProofSays}
-use Rattle.proof_graph.specs.CanonicalProof.{proof_text, CanBeRead}
+use Rattle.proof_file.specs.Steps.{StepShape, NoneTwice, NoneTwiceInSupports, term_at}
+use Rattle.proof_file.specs.Tells.{AreSupported, TellsAll}
+use Rattle.proof_file.specs.ProofText.{ProofSays}
+use Rattle.proof_file.specs.CanonicalProof.{proof_text, CanBeRead}
 use Rattle.why_pair.specs.Kept.{kept_by}
-use Rattle.why_pair.specs.Why.{StepsLead, NoneTwice, NoneTwiceInSupports, AllReached, TellsPart}
+use Rattle.why_pair.specs.Why.{StepsLead, AllReached, TellsPart}
 use Rattle.gkey_cmd.specs.Explained.{SpellApart}
 use Rattle.gkey_cmd.specs.WhyParts.{SpellsNumber, SpellTwo, TellsPair}
 use Rattle.gkey_cmd.specs.ChaseEnds.{IsWhyOfFiles, NameTwo, WhyEnds}

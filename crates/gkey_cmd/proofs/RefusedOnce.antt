@@ -5,7 +5,7 @@ use Rattle.gk_base.specs.declared.term.Triple.{Triple}
 use Rattle.gk_io.specs.Files.{bytes_of}
 use Rattle.nt_reader.proofs.CallerLemmas.{file_once}
 use Rattle.key_lang.proofs.CallerLemmas.{keys_once}
-use Rattle.proof_graph.proofs.CallerLemmas.{proof_once}
+use Rattle.proof_file.proofs.CallerLemmas.{proof_once}
 use Rattle.gkey_cmd.specs.Commands.{Wanted, Matching, Proving, Checking, Converting, Demonstrating, Merging, Explaining, Growing, Helping, TellingVersion, files_of}
 use Rattle.gkey_cmd.specs.Reading.{NamedFiles, GraphSays, left_by, IsAcceptedLeaving, IsRefusedSo, AllAccepted, FirstRefused}
 use Rattle.gkey_cmd.specs.Entities.{NamesOne}

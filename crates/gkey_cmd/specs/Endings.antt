@@ -12,8 +12,8 @@ use Rattle.gk_io.specs.declared.file_fault.FileFault.TheVariants as fault
 use Rattle.gk_io.specs.declared.shelf.Shelf
 use Rattle.gk_io.specs.declared.sink.Sink
 use Rattle.key_lang.specs.declared.fault.KeyRefusal.{KeyRefusal}
-use Rattle.proof_graph.specs.declared.fault.ProofRefusal.{ProofRefusal}
-use Rattle.proof_graph.specs.Steps.{StepShape}
+use Rattle.proof_file.specs.declared.fault.ProofRefusal.{ProofRefusal}
+use Rattle.proof_file.specs.Steps.{StepShape}
 use Rattle.graph_rows.specs.GraphFile.{GraphStops, AreMoreRowsOf}
 use Rattle.graph_rows.specs.Rows.{StandFor}
 use Rattle.graph_rows.specs.declared.rows.Rows.{Rows}

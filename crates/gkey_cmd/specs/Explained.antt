@@ -7,12 +7,12 @@ use Rattle.key_file.specs.KeyShape.{KeyShape}
 use Rattle.key_file.specs.Compile.{patterns_of}
 use Rattle.key_file.specs.Numbered.{names_for, graph_of}
 use Rattle.term_table.specs.Numbering.{place_of}
-use Rattle.proof_graph.specs.Steps.{StepShape}
-use Rattle.proof_graph.specs.ProofText.{ProofSays}
-use Rattle.proof_graph.specs.CanonicalProof.{proof_text}
+use Rattle.proof_file.specs.Steps.{StepShape, NoneTwice, NoneTwiceInSupports}
+use Rattle.proof_file.specs.ProofText.{ProofSays}
+use Rattle.proof_file.specs.CanonicalProof.{proof_text}
 use Rattle.proof_check.specs.Verdict.{verdict}
 use Rattle.proof_check.specs.declared.verdict.Verdict.TheVariants.{Accepted}
-use Rattle.why_pair.specs.Why.{StepsLead, NoneTwice, NoneTwiceInSupports, AllReached}
+use Rattle.why_pair.specs.Why.{StepsLead, AllReached}
 use Rattle.gkey_cmd.specs.Entities.{SpellsEntity}
 
 -- the chase makes the two terms the same

@@ -6,9 +6,9 @@ use Rattle.chase_laws.specs.Chase.{AreSame}
 use Rattle.key_file.specs.KeyShape.{KeyShape}
 use Rattle.key_file.specs.Compile.{patterns_of}
 use Rattle.key_file.specs.Numbered.{names_for, graph_of}
-use Rattle.proof_graph.specs.Steps.{StepShape}
-use Rattle.proof_graph.specs.ProofText.{ProofSays}
-use Rattle.proof_graph.specs.CanonicalProof.{proof_text}
+use Rattle.proof_file.specs.Steps.{StepShape}
+use Rattle.proof_file.specs.ProofText.{ProofSays}
+use Rattle.proof_file.specs.CanonicalProof.{proof_text}
 use Rattle.proof_check.specs.Verdict.{verdict}
 use Rattle.proof_check.specs.StepEntries.{step_entries}
 use Rattle.proof_check.specs.declared.verdict.Verdict.TheVariants.{Accepted}

@@ -3,7 +3,7 @@ use Rattle.std.specs.Prelude.{List, ℕ, ◌++◌, codes}
 use Rattle.std.specs.Fmt.{decimal}
 use Rattle.gk_base.specs.Faults.{read_text}
 use Rattle.key_lang.specs.Faults.{key_fault_text}
-use Rattle.proof_graph.specs.Faults.{proof_fault_text}
+use Rattle.proof_file.specs.Faults.{proof_fault_text}
 use Rattle.gkey_cmd.specs.declared.file.File.{File}
 use Rattle.gkey_cmd.specs.declared.file.File.TheVariants.{Graph, More, Keys, Proof}
 use Rattle.gkey_cmd.specs.declared.ending.Asked.{Asked}

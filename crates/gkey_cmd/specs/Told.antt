@@ -9,10 +9,10 @@ use Rattle.chase_laws.specs.Core.{Task}
 use Rattle.chase_laws.specs.Joined.{links}
 use Rattle.match_run.specs.Classes.{AreClasses, IsFinishedJournal}
 use Rattle.term_table.specs.Numbering.{place_of}
-use Rattle.proof_graph.specs.Steps.{StepShape, term_at}
-use Rattle.proof_graph.specs.Tells.{TellsAll}
-use Rattle.proof_graph.specs.ProofText.{ProofSays}
-use Rattle.proof_graph.specs.CanonicalProof.{proof_text}
+use Rattle.proof_file.specs.Steps.{StepShape, term_at}
+use Rattle.proof_file.specs.Tells.{TellsAll}
+use Rattle.proof_file.specs.ProofText.{ProofSays}
+use Rattle.proof_file.specs.CanonicalProof.{proof_text}
 use Rattle.key_file.specs.Name.{is_name}
 use Rattle.key_file.specs.KeyShape.{KeyShape}
 use Rattle.key_file.specs.Compile.{patterns_of}

@@ -8,11 +8,11 @@ use Rattle.chase_laws.specs.Chase.{IsDerivation, AreSame}
 use Rattle.nt_lex.specs.Spelling.{Spells}
 use Rattle.key_file.specs.Name.{is_name}
 use Rattle.term_text.specs.ReadBack.{CanBeSpelled}
-use Rattle.proof_graph.specs.Steps.{StepShape, term_at}
-use Rattle.proof_graph.specs.Tells.{TellsAll}
-use Rattle.proof_graph.specs.ProofText.{ProofSays}
-use Rattle.proof_graph.specs.CanonicalProof.{proof_text}
-use Rattle.why_pair.specs.Why.{StepsLead, NoneTwice, NoneTwiceInSupports, AllReached}
+use Rattle.proof_file.specs.Steps.{StepShape, NoneTwice, NoneTwiceInSupports, term_at}
+use Rattle.proof_file.specs.Tells.{TellsAll}
+use Rattle.proof_file.specs.ProofText.{ProofSays}
+use Rattle.proof_file.specs.CanonicalProof.{proof_text}
+use Rattle.why_pair.specs.Why.{StepsLead, AllReached}
 use Rattle.gkey_cmd.specs.declared.ending.Asked.TheVariants.{First, Second}
 use Rattle.gkey_cmd.specs.declared.ending.Refusal.TheVariants.{InGraph, InMore, InKeys, InProof, NoSuchEntity, MorePairsThan}
 use Rattle.gkey_cmd.specs.declared.ending.Ending.{Ending}

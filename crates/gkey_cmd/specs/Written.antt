@@ -8,8 +8,8 @@ use Rattle.key_file.specs.KeyShape.{KeyShape}
 use Rattle.gkey_cmd.specs.Commands.{Wanted, Matching, Proving, Checking, Converting, Demonstrating, Merging, Explaining, Growing, Helping, TellingVersion, demo_graph_name, demo_keys_name, files_of}
 use Rattle.gkey_cmd.specs.Texts.{usage, help_text, version_text, refused_text}
 use Rattle.gkey_cmd.specs.Reading.{NamedFiles, GraphSays, KeyFileSays, ProofFileSays, left_by, AllAccepted, FirstRefused}
-use Rattle.proof_graph.specs.Steps.{StepShape}
-use Rattle.proof_graph.specs.CanonicalProof.{proof_text}
+use Rattle.proof_file.specs.Steps.{StepShape}
+use Rattle.proof_file.specs.CanonicalProof.{proof_text}
 use Rattle.gkey_cmd.specs.Matched.{IsReport, HasTooManyPairs}
 use Rattle.gkey_cmd.specs.Proved.{IsProofText}
 use Rattle.gkey_cmd.specs.Checked.{IsChecked}

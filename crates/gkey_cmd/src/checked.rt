@@ -9,7 +9,7 @@ use crate::ending::Answer;
 use gk_base::NoMemory;
 use key_lang::KeyFile;
 use proof_check::{Checker, Reason, Verdict, law_proof};
-use proof_graph::Proof;
+use proof_file::Proof;
 use std::alloc::Global;
 
 /// The answer that goes with a verdict.

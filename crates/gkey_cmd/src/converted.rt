@@ -1,10 +1,10 @@
 //! What `convert` prints: the canonical text of a proof.
 
 ghost use Rattle.std.specs.Prelude.{◌≡◌, IfOk};
-ghost use Rattle.proof_graph.specs.CanonicalProof.{proof_text};
+ghost use Rattle.proof_file.specs.CanonicalProof.{proof_text};
 
 use gk_base::NoMemory;
-use proof_graph::{Proof, put_proof};
+use proof_file::{Proof, put_proof};
 use std::alloc::Global;
 
 /// The text of a proof, in version 2. Only want of memory stops it.

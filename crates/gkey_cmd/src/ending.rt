@@ -13,7 +13,7 @@ use crate::texts::{
 use gk_base::{NoMemory, ReadRefusal, Stop};
 use gk_io::{Failed, FileFault, FileStop, Sink, write_all};
 use key_lang::{KeyRefusal, KeyStop};
-use proof_graph::{ProofRefusal, ProofStop};
+use proof_file::{ProofRefusal, ProofStop};
 use std::alloc::Global;
 
 /// The answer of a run that comes to its end.

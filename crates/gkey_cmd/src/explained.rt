@@ -27,7 +27,7 @@ use key_lang::KeyFile;
 use match_run::{chase_setup, prepare_graph};
 use pair_seed::SeedStop;
 use proof_check::law_proof;
-use proof_graph::{law_proof_read_back, put_proof};
+use proof_file::{law_proof_read_back, put_proof};
 use std::alloc::Global;
 use std::sync::Wait;
 use std::thread::Threads;

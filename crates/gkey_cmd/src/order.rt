@@ -29,7 +29,7 @@ use gk_io::{Failed, Shelf, SureShelf};
 use graph_rows::{MoreRows, Rows, load, read_more_rows, read_rows};
 use key_lang::KeyFile;
 use proof_check::Checker;
-use proof_graph::Proof;
+use proof_file::Proof;
 use std::alloc::Global;
 use std::sync::Wait;
 use std::thread::{Threads, join_mut};
@@ -86,7 +86,7 @@ fn read_proof<S: Shelf>(
         Err(Stop::NoMemory) => return Err(Ending::NoMemory),
         Err(Stop::Fault(Failed)) => return Err(Ending::Failed(File::Proof)),
     };
-    Ok(proof_graph::read_proof(alloc, &bytes, limits.bytes)?)
+    Ok(proof_file::read_proof(alloc, &bytes, limits.bytes)?)
 }
 
 /// The rows of the graph and the keys, or the ending of a run that can't have them: the graph comes first, then the key

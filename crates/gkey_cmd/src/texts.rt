@@ -1,6 +1,6 @@
 //! Each status of the program, with its meaning and the text that goes to the error stream with it; and the texts of `--help`
 //! and `--version`. No other file has such a status or text, but that what is wrong with a line is said by the fault itself, in
-//! `gk_base`, `key_lang` and `proof_graph`, and what is wrong with a step of a proof by the reason, in `proof_check`.
+//! `gk_base`, `key_lang` and `proof_file`, and what is wrong with a step of a proof by the reason, in `proof_check`.
 
 ghost use Rattle.std.specs.Prelude.{◌≡◌, IfOk};
 ghost use Rattle.gkey_cmd.specs.Texts.{help_text, version_text, file_text, read_failed, line_text, no_entity_text, pairs_text, refused_text};

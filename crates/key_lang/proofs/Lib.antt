@@ -5,6 +5,7 @@ mod CursorLemmas
 mod DifferLemmas
 mod FairLemmas
 mod FairSteps
+mod FileFacts
 mod GoodLemmas
 mod KeyAgain
 mod KeysLemmas

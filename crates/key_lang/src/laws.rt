@@ -2,6 +2,7 @@
 
 ghost use Rattle.std.specs.Prelude.{◌≤◌, ◌↔◌, ℕ, List, length, Ok};
 ghost use Rattle.key_lang.specs.CanonicalKeys.{keys_text};
+ghost use Rattle.key_file.specs.KeyFile.{IsKeyFile};
 ghost use Rattle.key_file.specs.KeyShape.{KeyShape};
 ghost use Rattle.gk_base.specs.Answers.{HasOne};
 ghost use Rattle.key_lang.specs.OpenKey.{KeyState};
@@ -23,4 +24,9 @@ pub fn law_one_keys_answer()
 pub fn law_keys_read_back()
     ensures { (first limit : ℕ) (bytes : List ℕ) (keys : List KeyShape) → KeysSay first bytes (Ok keys) →
         (length (keys_text keys) ≤ limit) ↔ KeysSay limit (keys_text keys) (Ok keys) }
+{}
+
+/// What a key file says is a key file: at most 64 valid keys, whose names are all different.
+pub fn law_key_file()
+    ensures { (limit : ℕ) (bytes : List ℕ) (keys : List KeyShape) → KeysSay limit bytes (Ok keys) → IsKeyFile keys }
 {}

@@ -34,4 +34,4 @@ pub use canonical::put_keys;
 pub use fault::{KeyFault, KeyRefusal, KeyStop};
 pub use file::read_keys;
 pub use key_file::{KeyDef, KeyEdge, KeyFile, KeySlot, compile};
-pub use laws::{law_keys_read_back, law_one_keys_answer, law_one_line_answer};
+pub use laws::{law_key_file, law_keys_read_back, law_one_keys_answer, law_one_line_answer};

@@ -1,14 +1,16 @@
 -- The steps of an accepted proof are a derivation.
-use Rattle.std.proofs.Common.{List, [], ◌∷◌, ◌++◌, ℕ, zero, suc, Option, Some, None, map, slice_get, take, ◌≡◌, refl, sym, subst, append_assoc, append-nil}
+use Rattle.std.proofs.Common.{List, [], ◌∷◌, ◌++◌, ℕ, zero, suc, ◌+◌, Option, Some, None, map, length, slice_get, take, ◌≡◌, refl, sym, subst, arith, append_assoc, append-nil, length-append}
 use Rattle.std.proofs.lemmas.List.{map-append}
 use Rattle.std.proofs.lemmas.Option.{get_or_from_slice_get, slice_get_within}
 use Rattle.gk_base.specs.declared.term.Triple.{Triple}
-use Rattle.chase_laws.specs.Chase.{IsStep, IsDerivation}
+use Rattle.chase_laws.specs.Joined.{Joined}
+use Rattle.chase_laws.specs.Chase.{IsStep, IsDerivation, AreSame}
 use Rattle.key_file.specs.KeyShape.{KeyShape}
 use Rattle.key_file.specs.Key.{IsKey}
 use Rattle.key_file.specs.KeyFile.{IsKeyFile}
 use Rattle.key_file.specs.Compile.{patterns_of}
-use Rattle.proof_graph.specs.Steps.{StepShape, step_ends}
+use Rattle.gk_base.specs.declared.term.Term.{Term}
+use Rattle.proof_file.specs.Steps.{StepShape, step_ends}
 use Rattle.key_file.specs.Numbered.{names_for, graph_of}
 use Rattle.proof_check.specs.StepEntries.{step_entry, step_entries}
 use Rattle.proof_check.specs.Verdict.{key_place, reason_of, rejected_or, verdict_after, verdict}
@@ -23,6 +25,17 @@ use Rattle.proof_check.proofs.ToNumbers.{holds_at, step_holds}
 judged_accepted : (o : Option Reason) (number : ℕ) (later : Verdict) (count : ℕ) → rejected_or o number later ≡ Accepted count → (o ≡ None) × (later ≡ Accepted count)
 judged_accepted None number later count h = (refl, h)
 judged_accepted (Some reason) number later count h = absurd cc
+
+-- each step is counted, and so are those before
+count_after : (triples : List Triple) (keys : List KeyShape) (earlier : List (Term × Term)) (steps : List StepShape) (count : ℕ) → verdict_after triples keys earlier steps ≡ Accepted count → count ≡ length earlier + length steps
+count_after triples keys earlier [] count h = let same : length earlier ≡ count = cc in omega arith
+count_after triples keys earlier (s ∷ steps) count h =
+    let later = count_after triples keys (earlier ++ step_ends s ∷ []) steps count (judged_accepted _ _ _ count h).1 in
+    let more = length-append earlier (step_ends s ∷ []) in
+    omega arith
+
+pub accepted_count : (triples : List Triple) (keys : List KeyShape) (steps : List StepShape) (count : ℕ) → verdict triples keys steps ≡ Accepted count → count ≡ length steps
+accepted_count triples keys steps count h = let all = count_after triples keys [] steps count h in omega arith
 
 -- there is no reason against any step of an accepted proof
 pub no_reason : (triples : List Triple) (keys : List KeyShape) (before steps : List StepShape) (count : ℕ) → verdict_after triples keys (map step_ends before) steps ≡ Accepted count →
@@ -49,3 +62,8 @@ accepted_derivation triples keys steps count file h i e at =
     subst (λ u. IsStep (graph_of names triples) (patterns_of names keys) (take i (step_entries names keys steps)) u) s.2
     (subst (λ l. IsStep (graph_of names triples) (patterns_of names keys) l (step_entry names keys s.0)) (map-take (step_entry names keys) i steps)
     (step_holds triples keys names (are_names triples keys) (key_place keys s.0.key) found.0 found.1 (take i steps) s.0 refl valid found.2))
+
+-- what they join is the same
+pub accepted_same : (triples : List Triple) (keys : List KeyShape) (steps : List StepShape) (count : ℕ) → IsKeyFile keys → verdict triples keys steps ≡ Accepted count →
+    (a b : ℕ) → Joined (step_entries (names_for triples keys) keys steps) a b → AreSame (graph_of (names_for triples keys) triples) (patterns_of (names_for triples keys) keys) a b
+accepted_same triples keys steps count file h a b joins = (step_entries (names_for triples keys) keys steps, accepted_derivation triples keys steps count file h, joins)

@@ -1,8 +1,8 @@
 -- A proof that gives each entry of a derivation its step, with supports that lead, is accepted.
-use Rattle.std.proofs.Common.{List, [], ◌∷◌, ◌++◌, ℕ, suc, ◌+◌, ◌<◌, Bool, true, false, not, ◌==◌, ◌||◌, Option, Some, None, map, length, slice_get, slice_index, get_or, take, bytes_eq, IsSomeAnd, ◌≡◌, inl, inr, refl, sym, ap, subst, ◌∙◌, arith, true≢false, eqb-true, eq-eqb, if◌then◌else◌, append_assoc, append-nil, length-append}
+use Rattle.std.proofs.Common.{List, [], ◌∷◌, ◌++◌, ℕ, suc, ◌+◌, ◌<◌, Bool, true, false, not, ◌==◌, ◌||◌, Option, Some, None, All, map, length, slice_get, slice_index, get_or, take, bytes_eq, IsSomeAnd, ◌≡◌, inl, inr, refl, sym, ap, subst, ◌∙◌, arith, true≢false, eqb-true, eq-eqb, if◌then◌else◌, append_assoc, append-nil, length-append}
 use Rattle.std.specs.List.{list_all}
 use Rattle.std.proofs.lemmas.Bool.{and_from, or_cases, or_left, or_right, cases_Bool, not_from_false, false_from_ne_true}
-use Rattle.std.proofs.lemmas.List.{length-map, map-append}
+use Rattle.std.proofs.lemmas.List.{get_or_default, length-map, map-append}
 use Rattle.std.proofs.lemmas.List.Sums.{position_or_len_is}
 use Rattle.std.proofs.lemmas.Slice.Eq.{bytes_eq-Decides}
 use Rattle.std.proofs.lemmas.Option.{slice_get_within, get_or_from_slice_get}
@@ -20,7 +20,7 @@ use Rattle.chase_laws.specs.Joined.{joined_by}
 use Rattle.chase_laws.specs.Chase.{IsDerivation}
 use Rattle.term_table.specs.Numbering.{same_term, is_named, place_of}
 use Rattle.term_table.specs.Folding.{folded_term}
-use Rattle.term_table.proofs.CallerLemmas.{same_term-true, same_term-refl, slice_get-place_of, is_named-at}
+use Rattle.term_table.proofs.CallerLemmas.{same_term-true, same_term-refl, slice_get-place_of, place_of-within, is_named-at}
 use Rattle.term_table.proofs.CallerLemmas.{fold_of, folds_at, folded_at}
 use Rattle.key_file.specs.declared.slot.KeySlot.{KeySlot}
 use Rattle.key_file.specs.declared.slot.KeySlot.TheVariants.{Entity, Any, Value, Folded, Fixed}
@@ -30,13 +30,13 @@ use Rattle.key_file.specs.Key.{all_differ, IsKey}
 use Rattle.key_file.specs.KeyFile.{IsKeyFile}
 use Rattle.key_file.specs.Compile.{slot_of, numbered_edge, shape_of, patterns_of}
 use Rattle.key_file.proofs.CallerLemmas.{key_facts}
-use Rattle.proof_graph.specs.Steps.{SupportShape, StepShape, term_at, step_ends}
+use Rattle.proof_file.specs.Steps.{SupportShape, StepShape, term_at, step_ends}
 use Rattle.key_file.specs.Numbered.{rdf_type, type_number, names_for, graph_of}
-use Rattle.proof_graph.specs.Tells.{supported_slots as shape_slots}
-use Rattle.proof_graph.specs.Tells.{TellsAll}
+use Rattle.proof_file.specs.Tells.{supported_slots as shape_slots}
+use Rattle.proof_file.specs.Tells.{TellsAll}
 use Rattle.proof_check.proofs.SameReason.{supported_same}
 use Rattle.proof_check.specs.Verdict.{key_place, supported_variables, are_known, is_known, is_end, is_typed, is_triple, has_triple, has_kind, have_kinds, has_image, have_images, is_constant, are_constants, terms_agree, reason_unless, reason_at, reason_of, rejected_or, verdict_after, verdict}
-use Rattle.proof_graph.specs.Tells.{are_earlier, leads_there}
+use Rattle.proof_file.specs.Tells.{are_earlier, leads_there}
 use Rattle.proof_check.specs.declared.reason.Reason.{Reason}
 use Rattle.proof_check.specs.declared.verdict.Verdict.TheVariants.{Accepted}
 use Rattle.proof_check.proofs.ListFacts.{any_found, any_at, all_from, slots_from, map_at, map_found, at_within, get_or-map, differ_from}
@@ -109,6 +109,13 @@ module _ (triples : List Triple) (keys : List KeyShape) (names : List Term) (N :
             | inl e ↦ subst (λ n. IsEnd (slice_index v n)) (eqb-true r.1.from s e) b.0
             | inr e ↦ subst (λ n. IsEnd (slice_index v n)) (eqb-true r.1.to s e) b.1
           ]
+
+      -- so each is the number of a name
+      pub values_named : All (λ n. n < length names) v
+      values_named s d h =
+          let c = count in
+          let e = slot_end s (omega arith) in
+          subst (λ n. n < length names) (e.number ∙ get_or_default v s 0 d h) (place_of-within names (term_at names (slice_index v s)) e.named)
 
       abbrev terms : List Term
       terms = map (term_at names) v

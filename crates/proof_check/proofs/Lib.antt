@@ -1,8 +1,10 @@
+pub mod CallerLemmas
 mod ListFacts
 mod NameFacts
 mod ToNumbers
 mod Accepted
 mod FromNumbers
+mod SupportedLemmas
 mod RowLemmas
 mod FewLemmas
 mod SameReason

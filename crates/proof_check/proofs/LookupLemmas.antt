@@ -12,7 +12,7 @@ use Rattle.term_table.proofs.CallerLemmas.{same_term-true, same_term-refl, slice
 use Rattle.key_file.specs.Numbered.{row_of, rdf_type}
 use Rattle.key_file.proofs.CallerLemmas.{AreNamed, all_named, rows_stay}
 use Rattle.chase_laws.proofs.CallerLemmas.{slice_get-from_Contains}
-use Rattle.proof_graph.specs.Steps.{term_at}
+use Rattle.proof_file.specs.Steps.{term_at}
 use Rattle.proof_check.specs.Verdict.{has_triple, is_known}
 use Rattle.proof_check.specs.NumberVerdict.{IsLookup, has_row}
 use Rattle.proof_check.specs.Rows.{has_end, IsGraphInNumbers}

@@ -20,11 +20,11 @@ use Rattle.key_file.specs.declared.edge.KeyEdge.{KeyEdge}
 use Rattle.key_file.specs.KeyShape.{KeyShape}
 use Rattle.key_file.specs.Key.{all_differ}
 use Rattle.key_file.specs.Compile.{slot_terms, slot_of, numbered_edge, shape_of}
-use Rattle.proof_graph.specs.Leads.{other_end, end_along, arrives, links_lead}
-use Rattle.proof_graph.specs.Steps.{SupportShape, StepNumbers, step_with, term_at}
+use Rattle.proof_file.specs.Leads.{other_end, end_along, arrives, links_lead}
+use Rattle.proof_file.specs.Steps.{SupportShape, StepNumbers, step_with, term_at}
 use Rattle.key_file.specs.Numbered.{rdf_type}
 use Rattle.proof_check.specs.Verdict.{each_slot, variables_from, supported_variables, has_shape, are_known, is_known, is_typed, has_triple, has_kind, have_kinds, has_image, have_images, is_constant, are_constants, terms_agree, reason_unless, reason_at}
-use Rattle.proof_graph.specs.Tells.{entities_from, supported_slots, are_earlier, places_of, leads_there}
+use Rattle.proof_file.specs.Tells.{entities_from, supported_slots, are_earlier, places_of, leads_there}
 use Rattle.proof_check.specs.NumberVerdict.{IsLookup, has_row, number_has_kind, number_is_constant, number_is_typed, number_reason, numbers_agree_at, numbers_are_constants, numbers_are_known, numbers_have_images, numbers_have_kinds, numbers_have_shape, numbers_lead_there}
 use Rattle.proof_check.specs.declared.reason.Reason.{Reason}
 use Rattle.proof_check.proofs.ListFacts.{map_at, get_or-map}

@@ -14,7 +14,7 @@ use Rattle.key_file.specs.Key.{IsKey}
 use Rattle.key_file.specs.KeyFile.{IsKeyFile}
 use Rattle.key_file.specs.Compile.{shape_of}
 use Rattle.key_file.proofs.CallerLemmas.{key_facts}
-use Rattle.proof_graph.specs.Steps.{StepNumbers, step_with, term_at, step_ends, IsNumberedBelow}
+use Rattle.proof_file.specs.Steps.{StepNumbers, step_with, term_at, step_ends, IsNumberedBelow}
 use Rattle.proof_check.specs.Verdict.{key_place, reason_at, reason_of, rejected_or, verdict_after, verdict}
 use Rattle.proof_check.specs.Ready.{both_terms, AreNumberedLinks, IsMadeOf, renumbered, reason_by, reason_with, number_ends, verdict_with}
 use Rattle.proof_check.specs.declared.checker.Checker.{Checker}

@@ -8,11 +8,11 @@ use Rattle.chase_laws.specs.declared.pattern.Slot.TheVariants.{Entity, Any, Valu
 use Rattle.chase_laws.specs.Shape.{Shape, PatternFacts, is_entity}
 use Rattle.std.proofs.lemmas.Slice.Eq.{bytes_eq-Decides}
 use Rattle.proof_check.specs.Rows.{HasPlaces}
-use Rattle.proof_graph.specs.Leads.{other_end, end_along, arrives, links_lead}
-use Rattle.proof_graph.specs.Steps.{SupportShape, StepNumbers}
-use Rattle.proof_graph.specs.Tells.{places_of}
+use Rattle.proof_file.specs.Leads.{other_end, end_along, arrives, links_lead}
+use Rattle.proof_file.specs.Steps.{SupportShape, StepNumbers}
+use Rattle.proof_file.specs.Tells.{places_of}
 use Rattle.proof_check.specs.NumberVerdict.{numbers_have_shape}
-use Rattle.proof_graph.specs.Tells.{entities_from, supported_slots}
+use Rattle.proof_file.specs.Tells.{entities_from, supported_slots}
 use Rattle.proof_check.proofs.ListFacts.{get_or-map, map_at}
 
 -- one step more is passed

@@ -24,11 +24,11 @@ use Rattle.key_file.specs.KeyShape.{KeyShape}
 use Rattle.key_file.specs.Key.{may_be_subject, all_differ, IsKey}
 use Rattle.key_file.proofs.CallerLemmas.{key_facts}
 use Rattle.key_file.specs.Compile.{slot_of, numbered_edge, shape_of, patterns_of}
-use Rattle.proof_graph.specs.Leads.{other_end, end_along, arrives, links_lead}
-use Rattle.proof_graph.specs.Steps.{SupportShape, StepShape, term_at, step_ends}
+use Rattle.proof_file.specs.Leads.{other_end, end_along, arrives, links_lead}
+use Rattle.proof_file.specs.Steps.{SupportShape, StepShape, term_at, step_ends}
 use Rattle.key_file.specs.Numbered.{rdf_type, graph_of}
 use Rattle.proof_check.specs.Verdict.{key_place, variables_from, supported_variables, has_shape, are_known, is_known, is_typed, has_kind, have_kinds, has_triple, has_image, have_images, is_constant, are_constants, terms_agree, all_agree, reason_unless, reason_at}
-use Rattle.proof_graph.specs.Tells.{are_earlier, places_of, leads_there}
+use Rattle.proof_file.specs.Tells.{are_earlier, places_of, leads_there}
 use Rattle.proof_check.specs.declared.reason.Reason.{Reason}
 use Rattle.proof_check.specs.StepEntries.{step_entry, step_entries}
 use Rattle.proof_check.proofs.ListFacts.{all_at, slot_test, map_at, map_found, at_within, get_or-map, differ_at}

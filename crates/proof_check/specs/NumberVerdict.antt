@@ -11,10 +11,10 @@ use Rattle.chase_laws.specs.Shape.{Shape}
 use Rattle.term_table.specs.Numbering.{same_term, is_named, place_of, AreDistinct}
 use Rattle.term_table.specs.Folding.{folded_term}
 use Rattle.key_file.specs.Key.{all_differ}
-use Rattle.proof_graph.specs.Leads.{links_lead}
-use Rattle.proof_graph.specs.Steps.{SupportShape, StepNumbers, term_at}
+use Rattle.proof_file.specs.Leads.{links_lead}
+use Rattle.proof_file.specs.Steps.{SupportShape, StepNumbers, term_at}
 use Rattle.key_file.specs.Numbered.{rdf_type}
-use Rattle.proof_graph.specs.Tells.{supported_slots, are_earlier, places_of}
+use Rattle.proof_file.specs.Tells.{supported_slots, are_earlier, places_of}
 use Rattle.proof_check.specs.Verdict.{each_slot, has_triple, is_known, reason_unless}
 use Rattle.proof_check.specs.declared.reason.Reason.{Reason}
 use Rattle.proof_check.specs.declared.reason.Reason.TheVariants.{WrongShape, TermNotInTheGraph, TermTwice, WrongKindOrType, TripleMissing, ConstantDiffers, ValueDiffers, SupportNotEarlier, SupportDoesNotLeadThere}

@@ -8,7 +8,7 @@ use Rattle.key_file.specs.declared.slot.KeySlot.{KeySlot}
 use Rattle.key_file.specs.declared.edge.KeyEdge.{KeyEdge}
 use Rattle.key_file.specs.KeyShape.{KeyShape}
 use Rattle.key_file.specs.Compile.{slot_terms, patterns_of}
-use Rattle.proof_graph.specs.Steps.{StepNumbers, term_at}
+use Rattle.proof_file.specs.Steps.{StepNumbers, term_at}
 use Rattle.proof_check.specs.NumberVerdict.{IsLookup, number_reason}
 use Rattle.proof_check.specs.Verdict.{key_place, rejected_or}
 use Rattle.proof_check.specs.declared.verdict.Verdict.{Verdict}

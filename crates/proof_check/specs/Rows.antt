@@ -7,7 +7,7 @@ use Rattle.term_list.specs.Triples.{terms_of}
 use Rattle.term_table.specs.Numbering.{names_of}
 use Rattle.key_file.specs.Numbered.{row_of}
 use Rattle.chase_laws.specs.Shape.{Shape}
-use Rattle.proof_graph.specs.Steps.{StepNumbers}
+use Rattle.proof_file.specs.Steps.{StepNumbers}
 
 -- These names and rows are the triples in numbers: the names are the distinct terms of the triples, in their order, and there
 -- is a row for each triple, of the places of its terms among the names.

@@ -4,7 +4,7 @@ use Rattle.gk_base.specs.declared.term.Term.{Term}
 use Rattle.chase_laws.specs.declared.entry.Entry.{Entry}
 use Rattle.term_table.specs.Numbering.{place_of}
 use Rattle.key_file.specs.KeyShape.{KeyShape}
-use Rattle.proof_graph.specs.Steps.{StepShape, term_at}
+use Rattle.proof_file.specs.Steps.{StepShape, term_at}
 use Rattle.proof_check.specs.Verdict.{key_place}
 
 -- a step in numbers: the place of its key, the numbers of its terms, and those of the two that it makes the same

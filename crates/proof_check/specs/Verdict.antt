@@ -12,8 +12,8 @@ use Rattle.key_file.specs.declared.slot.KeySlot.TheVariants.{Entity, Any, Value,
 use Rattle.key_file.specs.declared.edge.KeyEdge.{KeyEdge}
 use Rattle.key_file.specs.KeyShape.{KeyShape}
 use Rattle.key_file.specs.Key.{all_differ}
-use Rattle.proof_graph.specs.Tells.{are_earlier, leads_there}
-use Rattle.proof_graph.specs.Steps.{SupportShape, StepShape, term_at, step_ends}
+use Rattle.proof_file.specs.Tells.{are_earlier, leads_there}
+use Rattle.proof_file.specs.Steps.{SupportShape, StepShape, term_at, step_ends}
 use Rattle.key_file.specs.Numbered.{rdf_type}
 use Rattle.proof_check.specs.declared.reason.Reason.{Reason}
 use Rattle.proof_check.specs.declared.reason.Reason.TheVariants.{UnknownKey, WrongShape, TermNotInTheGraph, TermTwice, WrongKindOrType, TripleMissing, ConstantDiffers, ValueDiffers, SupportNotEarlier, SupportDoesNotLeadThere}

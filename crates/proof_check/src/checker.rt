@@ -16,7 +16,7 @@ use crate::verdict::Verdict;
 use chase_laws::Pattern;
 use gk_base::{NoMemory, Term, Text};
 use key_file::{KeyFile, compile};
-use proof_graph::Proof;
+use proof_file::Proof;
 use std::alloc::Global;
 use term_list::{Terms, Triples};
 use term_table::Names;

@@ -1,7 +1,7 @@
 //! The verdict on the steps of a proof.
 
 ghost use Rattle.std.specs.Prelude.{◌≡◌, ◌<◌, ◌^◌, [], IfOk, All, length, map, slice_index};
-ghost use Rattle.proof_graph.specs.Steps.{IsNumberedBelow};
+ghost use Rattle.proof_file.specs.Steps.{IsNumberedBelow};
 ghost use Rattle.proof_check.specs.Verdict.{key_place};
 ghost use Rattle.proof_check.specs.Ready.{reason_with, renumbered, verdict_with, with_sides};
 
@@ -12,7 +12,7 @@ use crate::sides::Sides;
 use crate::verdict::Verdict;
 use gk_base::{NoMemory, Text};
 use key_file::KeyDef;
-use proof_graph::ProofStep;
+use proof_file::ProofStep;
 use std::alloc::Global;
 
 /// The place of the first key with this name, or how many keys there are.

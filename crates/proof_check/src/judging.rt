@@ -3,7 +3,7 @@
 ghost use Rattle.std.specs.Prelude.{◌≡◌, ◌<◌, ◌&&◌, IfOk, All, true, nat_eq, length};
 ghost use Rattle.std.specs.List.{list_all};
 ghost use Rattle.key_file.specs.Key.{all_differ};
-ghost use Rattle.proof_graph.specs.Tells.{are_earlier};
+ghost use Rattle.proof_file.specs.Tells.{are_earlier};
 ghost use Rattle.proof_check.specs.NumberVerdict.{numbers_have_shape, numbers_are_known, numbers_have_kinds, numbers_have_images, numbers_are_constants, reason_from_supports, reason_from_values, reason_from_kinds, number_reason};
 ghost use Rattle.proof_check.specs.Rows.{HasPlaces, AreEarlier};
 ghost use Rattle.proof_check.specs.Ready.{with_sides};
@@ -18,7 +18,7 @@ use crate::values::all_agree;
 use chase_laws::laws::law_pattern;
 use chase_laws::{Edge, Pattern, Slot};
 use gk_base::NoMemory;
-use proof_graph::ProofStep;
+use proof_file::ProofStep;
 use std::alloc::Global;
 use term_table::Names;
 

@@ -1,10 +1,10 @@
 //! The sides of a step by the numbers of the graph's names.
 
 ghost use Rattle.std.specs.Prelude.{◌≡◌, ◌<◌, [], All, OnOk, length, map, slice_index};
-ghost use Rattle.proof_graph.specs.Steps.{IsNumberedBelow};
+ghost use Rattle.proof_file.specs.Steps.{IsNumberedBelow};
 
 use gk_base::NoMemory;
-use proof_graph::ProofStep;
+use proof_file::ProofStep;
 use std::alloc::Global;
 
 /// The numbers of a step's terms, for either side. One such is filled for each step anew, so that memory is asked for only where

@@ -3,11 +3,11 @@
 ghost use Rattle.std.specs.Prelude.{nat_lt, ◌≡◌, ◌<◌, ◌≤◌, ◌&&◌, ◌==◌, Some, All, nat_eq, bytes_eq, length, map, slice_index};
 ghost use Rattle.std.specs.List.{list_all};
 ghost use Rattle.chase_laws.specs.Shape.{is_entity};
-ghost use Rattle.proof_graph.specs.Leads.{other_end, links_lead};
-ghost use Rattle.proof_graph.specs.Tells.{supported_slots, are_earlier, places_of};
+ghost use Rattle.proof_file.specs.Leads.{other_end, links_lead};
+ghost use Rattle.proof_file.specs.Tells.{supported_slots, are_earlier, places_of};
 
 use chase_laws::Slot;
-use proof_graph::Support;
+use proof_file::Support;
 
 /// Whether the support at a place is that of a slot.
 fn is_support_of(supports: &[Support], place: usize, slot: usize) -> bool

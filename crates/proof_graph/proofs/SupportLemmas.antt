@@ -1,5 +1,5 @@
 -- What a way is as a support.
-use Rattle.std.proofs.Common.{List, [], ◌∷◌, ℕ, suc, ◌+◌, ◌<◌, ◌≤◌, Bool, true, false, true≢false, eqb-true, eq-eqb, ◌⊎◌, inl, inr, nat_eq, Option, Some, None, Result, Ok, Err, IfOk, IfSome, IsSome, All, AllPairs, length, get_or, take, ◌≡◌, ◌≢◌, ◌↔◌, refl, sym, ap, subst, ◌∙◌, arith}
+use Rattle.std.proofs.Common.{List, [], ◌∷◌, ℕ, suc, ◌+◌, ◌<◌, ◌≤◌, Bool, true, false, true≢false, eqb-true, eq-eqb, ◌⊎◌, inl, inr, nat_eq, Option, Some, None, Result, Ok, Err, IfOk, IfSome, IsSome, All, length, get_or, take, ◌≡◌, ◌↔◌, refl, sym, ap, subst, ◌∙◌, arith}
 use Rattle.std.proofs.lemmas.List.{take_all, length-map, take_more}
 use Rattle.std.proofs.lemmas.List.Elements.{All-push, All-weaker}
 use Rattle.std.proofs.lemmas.Option.{slice_get-get_or}
@@ -7,11 +7,12 @@ use Rattle.chase_laws.specs.declared.entry.Entry.{Entry}
 use Rattle.chase_laws.specs.Joined.{joined, joined_by, links}
 use Rattle.chase_laws.proofs.CallerLemmas.{joined_nil, joined_refl, joined_sym, joined_parts}
 use Rattle.std.proofs.lemmas.Bool.{cases_lt, false_from_ne_true}
-use Rattle.proof_graph.specs.Leads.{links_lead}
+use Rattle.proof_file.specs.Leads.{links_lead}
+use Rattle.proof_file.specs.Steps.{NoneTwice}
 use Rattle.proof_graph.specs.Way.{way}
 use Rattle.proof_graph.proofs.WayLemmas.{way-leads, on_way, way-once, Once}
 
-pub once_pairs : (xs : List ℕ) → Once xs → AllPairs (λ p q. p ≢ q) xs
+pub once_pairs : (xs : List ℕ) → Once xs → NoneTwice xs
 once_pairs xs once i j d l h e =
     let same = once i j (get_or xs i d) (slice_get-get_or xs i d (omega arith)) (slice_get-get_or xs j d h ∙ ap Some (sym e)) in
     omega arith
@@ -26,7 +27,7 @@ module _ (H : List Entry) (a b : ℕ) (h : joined_by H a b ≡ true) where
   pub way_below : All (λ p. p < length H) (way (links H) (length H) a b)
   way_below i d l = (on_way (links H) (length H) a b whole i (get_or (way (links H) (length H) a b) i d) (slice_get-get_or (way (links H) (length H) a b) i d l)).below
 
-  pub way_once : AllPairs (λ p q. p ≢ q) (way (links H) (length H) a b)
+  pub way_once : NoneTwice (way (links H) (length H) a b)
   way_once = once_pairs (way (links H) (length H) a b) (way-once (links H) (length H) a b whole)
 
 -- what is so of the way is so of the places that were found

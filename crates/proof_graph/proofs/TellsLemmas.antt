@@ -1,5 +1,5 @@
 -- The steps that a journal makes tell its entries.
-use Rattle.std.proofs.Common.{Bool, List, [], ◌∷◌, ℕ, zero, suc, ◌+◌, ◌<◌, true, nat_le, Some, map, length, slice_get, slice_index, get_or, take, ◌≡◌, refl, sym, ap, subst, ◌∙◌, arith}
+use Rattle.std.proofs.Common.{Bool, List, [], ◌∷◌, ℕ, zero, suc, ◌+◌, ◌<◌, true, nat_le, Some, All, map, length, slice_get, slice_index, get_or, take, ◌≡◌, refl, sym, ap, subst, ◌∙◌, arith}
 use Rattle.std.specs.Option.{option_map}
 use Rattle.std.specs.List.{list_all}
 use Rattle.std.proofs.lemmas.Bool.{and_from, le-leb}
@@ -11,21 +11,37 @@ use Rattle.chase_laws.specs.declared.entry.Entry.{Entry}
 use Rattle.chase_laws.specs.declared.pattern.Slot.TheVariants.{Entity}
 use Rattle.chase_laws.specs.Shape.{Shape, PatternFacts}
 use Rattle.chase_laws.specs.Joined.{joined, joined_by, links}
+use Rattle.chase_laws.proofs.CallerLemmas.{slice_get-map_from}
 use Rattle.term_table.specs.Numbering.{same_term, AreDistinct}
-use Rattle.proof_graph.specs.Leads.{links_lead}
+use Rattle.proof_file.specs.Leads.{links_lead}
 use Rattle.proof_graph.specs.Way.{way}
-use Rattle.proof_graph.specs.Steps.{SupportShape, StepShape, term_at, step_ends}
-use Rattle.proof_graph.specs.Tells.{supported_slots, IsSupported, AreSupported, is_earlier, are_earlier, places_of, leads_there, Tells, TellsAll}
+use Rattle.proof_file.specs.Steps.{SupportShape, StepShape, NoneTwice, NoneTwiceInSupports, term_at, step_ends}
+use Rattle.proof_file.specs.Tells.{supported_slots, IsSupported, AreSupported, is_earlier, are_earlier, places_of, leads_there, Tells, TellsAll}
 use Rattle.proof_graph.specs.Built.{built_support, built_step, pattern_at, built_entry, FitsPattern}
-use Rattle.proof_graph.proofs.WayLemmas.{fronts, way-stable, on_way}
+use Rattle.proof_graph.proofs.WayLemmas.{Once, fronts, way-stable, on_way, way-once}
+use Rattle.proof_graph.proofs.SupportLemmas.{once_pairs}
 use Rattle.proof_graph.proofs.TreeLemmas.{link_at}
 use Rattle.proof_graph.proofs.TermLeads.{way_leads_terms, AreIn, both}
-use Rattle.proof_graph.proofs.SlotLemmas.{supported_at}
+use Rattle.proof_file.proofs.CallerLemmas.{supported_at}
 
 -- a test that each element passes
 all_pass : {X : Type 0} (p : X → Bool) (xs : List X) → ((k : ℕ) (x : X) → slice_get xs k ≡ Some x → p x ≡ true) → list_all p xs ≡ true
 all_pass p [] h = refl
 all_pass p (x ∷ xs) h = and_from (p x) (list_all p xs) (h 0 x refl) (all_pass p xs (λ k y at. h (suc k) y at))
+
+-- what is so at each place is so of all
+each_at : {X : Type 0} (P : X → Type 0) (xs : List X) → ((k : ℕ) (x : X) → slice_get xs k ≡ Some x → P x) → All P xs
+each_at P xs h = λ k d l. h k (get_or xs k d) (slice_get-get_or xs k d l)
+
+-- numbers of steps for places of which none stands twice
+numbers_once : (places : List ℕ) → Once places → NoneTwice (map (λ p. p + 1) places)
+numbers_once places once i j d less inside same =
+    let n = length-map places (λ (p : ℕ). p + 1) in
+    let in_j : j < length places = omega arith in
+    let in_i : i < length places = omega arith in
+    let at_i = get_or-map (λ (p : ℕ). p + 1) places i 0 d in_i in
+    let at_j = get_or-map (λ (p : ℕ). p + 1) places j 0 d in_j in
+    once_pairs places once i j 0 less in_j (omega arith)
 
 -- the element of a longer list
 at_take : {X : Type 0} (i : ℕ) (xs : List X) (k : ℕ) (x : X) → slice_get (take i xs) k ≡ Some x → (k < i) × (slice_get xs k ≡ Some x)
@@ -215,6 +231,27 @@ module _ (names : List Term) (distinct : AreDistinct names) (K : List Shape) (ke
         let same : step_of e ≡ step = (let two : Some (step_of e) ≡ Some step = sym (slice_get-map step_of H i ∙ ap (λ o. option_map step_of o) at) ∙ in_steps in cc) in
         subst (λ t. Tells names K key_names (take i (map step_of H)) e t) same (told i e at);
   }
+
+  -- none stands twice in a support
+  pub once_all : NoneTwiceInSupports (map step_of H)
+  once_all = each_at (λ (step : StepShape). All (λ (u : SupportShape). NoneTwice u.steps) step.supports) (map step_of H) (λ i step there.
+      let r = slice_get-map_from step_of H i step there in
+      subst (λ (s : StepShape). All (λ (u : SupportShape). NoneTwice u.steps) s.supports) r.2 (once_at i r.0 r.1))
+    where
+      once_at : (i : ℕ) (e : Entry) → slice_get H i ≡ Some e → All (λ (u : SupportShape). NoneTwice u.steps) (step_of e).supports
+      once_at i e at =
+          let s = sup i e at in
+          let w = slice_get_within H i e at in
+          let same : pattern_at K e.key ≡ s.pattern = get_or_from_slice_get K e.key s.pattern (record { slots = []; edges = [] }) s.key in
+          let ss = supported_slots (pattern_at K e.key).slots in
+          let slots : ss ≡ supported_slots s.pattern.slots = ap (λ (Q : Shape). supported_slots Q.slots) same in
+          each_at (λ (u : SupportShape). NoneTwice u.steps) (map (built_support H e) ss) (λ j u in_u.
+          let r = support_at e ss j u in_u in
+          let a = at_slot i e s j r.0 (ap (λ l. slice_get l j) (sym slots) ∙ r.1) in
+          let x = slice_index e.left r.0 in
+          let y = slice_index e.right r.0 in
+          subst (λ (v : SupportShape). NoneTwice v.steps) r.2
+          (numbers_once (way (links H) (length H) x y) (way-once (links H) (length H) x y (fronts (links H) i (length H) (omega arith) x y a.joined))))
 
 -- the step of an entry, by its parts
 pub entry_is : (names : List Term) (K : List Shape) (key_names : List (List ℕ)) (ways H : List Entry) (Q : Shape) (key : List ℕ) (e : Entry) → ways ≡ H → Q ≡ pattern_at K e.key → key ≡ get_or key_names e.key [] →

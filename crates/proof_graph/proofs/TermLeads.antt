@@ -9,9 +9,9 @@ use Rattle.gk_base.specs.declared.term.Term.TheVariants.{Plain}
 use Rattle.chase_laws.specs.Joined.{joined}
 use Rattle.term_table.specs.Numbering.{same_term, AreDistinct}
 use Rattle.term_table.proofs.CallerLemmas.{same_term-true, same_term-refl}
-use Rattle.proof_graph.specs.Leads.{other_end, end_along, arrives, links_lead}
-use Rattle.proof_graph.specs.Steps.{term_at}
-use Rattle.proof_graph.specs.Tells.{places_of}
+use Rattle.proof_file.specs.Leads.{other_end, end_along, arrives, links_lead}
+use Rattle.proof_file.specs.Steps.{term_at}
+use Rattle.proof_file.specs.Tells.{places_of}
 use Rattle.proof_graph.specs.Way.{through, way}
 use Rattle.proof_graph.proofs.WayLemmas.{way-leads}
 

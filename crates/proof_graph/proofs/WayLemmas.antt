@@ -3,7 +3,7 @@ use Rattle.std.proofs.Common.{List, [], ◌∷◌, ◌++◌, ℕ, zero, suc, ◌
 use Rattle.std.proofs.lemmas.Bool.{and_parts, cases_Bool, cases_lt, cond-true, cond-false}
 use Rattle.chase_laws.specs.Joined.{joined}
 use Rattle.chase_laws.proofs.CallerLemmas.{joined_nil, joined_refl, joined_sym, joined_trans, joined_head, joined-push, joined_last, Within, Within-nil, Within-cons, Within-trans, Within-more}
-use Rattle.proof_graph.specs.Leads.{other_end, end_along, arrives, links_lead}
+use Rattle.proof_file.specs.Leads.{other_end, end_along, arrives, links_lead}
 use Rattle.proof_graph.specs.Way.{through, way}
 
 take-nil : (t : ℕ) → ◌≡◌ {A = List (ℕ × ℕ)} [] (take t [])

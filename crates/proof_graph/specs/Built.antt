@@ -7,8 +7,8 @@ use Rattle.chase_laws.specs.declared.pattern.Slot.TheVariants.{Entity}
 use Rattle.chase_laws.specs.Shape.{Shape}
 use Rattle.chase_laws.specs.Joined.{joined_by, links}
 use Rattle.proof_graph.specs.Way.{way}
-use Rattle.proof_graph.specs.Steps.{SupportShape, StepShape, term_at}
-use Rattle.proof_graph.specs.Tells.{supported_slots}
+use Rattle.proof_file.specs.Steps.{SupportShape, StepShape, term_at}
+use Rattle.proof_file.specs.Tells.{supported_slots}
 
 -- what joins the images of an entry at a slot: the way between them along the journal, in numbers of steps
 abbrev pub built_support : List Entry → Entry → ℕ → SupportShape

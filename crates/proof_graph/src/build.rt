@@ -4,15 +4,15 @@ ghost use Rattle.std.specs.Prelude.{◌≡◌, ◌<◌, ◌≤◌, ◌+◌, ◌-
 ghost use Rattle.chase_laws.specs.Shape.{is_entity};
 ghost use Rattle.chase_laws.specs.Joined.{joined_by};
 ghost use Rattle.term_table.specs.Numbering.{with_terms, AreDistinct};
-ghost use Rattle.proof_graph.specs.Steps.{step_terms, in_numbers};
-ghost use Rattle.proof_graph.specs.Tells.{AreSupported, TellsAll, supported_slots};
-ghost use Rattle.proof_graph.specs.TermNumbers.{NotesPlaces};
+ghost use Rattle.proof_file.specs.Steps.{step_terms, in_numbers, NoneTwiceInSupports};
+ghost use Rattle.proof_file.specs.Tells.{AreSupported, TellsAll, supported_slots};
+ghost use Rattle.proof_file.specs.TermNumbers.{NotesPlaces};
 ghost use Rattle.proof_graph.specs.Built.{built_support, built_step, FitsPattern, IsJoinedAt};
 
-use crate::term_numbers::TermNumbers;
-use crate::{Proof, ProofStep, Support, Ways};
+use crate::Ways;
 use chase_laws::{Entry, Pattern, Places, Slot, all_valid};
 use gk_base::{NoMemory, Text};
+use proof_file::{Proof, ProofStep, Support, TermNumbers};
 use std::alloc::Global;
 use term_table::Names;
 
@@ -139,7 +139,10 @@ pub fn build_proof(
 ) -> Result<Proof, NoMemory>
     requires supported { AreSupported (length names.now) patterns.now journal.now }
     requires named { length key_names.now ≡ length patterns.now }
-    ensures { IfOk result (λ proof. TellsAll names.now patterns.now key_names.now journal.now proof) }
+    ensures tells { IfOk result (λ proof. TellsAll names.now patterns.now key_names.now journal.now proof) }
+
+    // No number stands twice in a support.
+    ensures once { IfOk result (λ proof. NoneTwiceInSupports proof) }
 {
     if journal.len() > MOST_STEPS {
         return Err(NoMemory);

@@ -1,8 +1,9 @@
 //! The way between two names, part by part. The entry at which two names come together parts the way between them in two, so
 //! a stack of parts is worked off whose places come out in order.
 
-ghost use Rattle.std.specs.Prelude.{option_to_list, ◌∷◌, ◌≡◌, ◌<◌, ◌≤◌, ◌++◌, [], true, OnOk, All, length};
+ghost use Rattle.std.specs.Prelude.{option_to_list, ◌∷◌, ◌≡◌, ◌<◌, ◌≤◌, ◌++◌, [], true, OnOk, OnErr, All, length};
 ghost use Rattle.chase_laws.specs.Joined.{joined_by, links};
+ghost use Rattle.term_text.specs.Appending.{BeginsWith};
 ghost use Rattle.proof_graph.specs.Way.{way};
 ghost use Rattle.proof_graph.specs.Tree.{AreTreesOf, never};
 ghost use Rattle.proof_graph.specs.Parts.{first_part, second_part};
@@ -23,7 +24,8 @@ struct Part {
 
 /// Puts a place at the end, if there is one.
 fn put_some(places: &mut Vec<u32>, place: Option<u32>) -> Result<(), NoMemory>
-    ensures { OnOk result (places.new.items ≡ places.old.items ++ option_to_list place) }
+    ensures ok { OnOk result (places.new.items ≡ places.old.items ++ option_to_list place) }
+    ensures err { OnErr result (places.new.items ≡ places.old.items) }
 {
     if let Some(place) = place {
         places.push(place)?;
@@ -48,7 +50,7 @@ fn divide(parts: &mut Vec<Part>, part: Part, meeting: Meeting) -> Result<(), NoM
     Ok(())
 }
 
-/// Puts the places of the way between two joined names at the end.
+/// Puts the places of the way between two joined names at the end. After `NoMemory` some of them may have come there.
 pub(crate) fn put_way(
     alloc: Global,
     journal: &[Entry],
@@ -63,7 +65,8 @@ pub(crate) fn put_way(
     requires to { to < length nodes.now }
     requires small { length journal.now ≤ never }
     requires joined { joined_by journal.now from to ≡ true }
-    ensures { OnOk result (places.new.items ≡ places.old.items ++ way (links journal.now) (length journal.now) from to) }
+    ensures ok { OnOk result (places.new.items ≡ places.old.items ++ way (links journal.now) (length journal.now) from to) }
+    ensures kept { BeginsWith places.old.items places.new.items }
 {
     let mut parts = Vec::new(alloc);
     parts.push(Part {

@@ -1,8 +1,9 @@
 //! Which entries of a journal lead from one name to another.
 
-ghost use Rattle.std.specs.Prelude.{◌≡◌, ◌≢◌, ◌<◌, ◌≤◌, ◌↔◌, IsTrue, IsSome, IfOk, IfSome, All, AllPairs, length, take, nat_eq};
+ghost use Rattle.std.specs.Prelude.{◌≡◌, ◌<◌, ◌≤◌, ◌↔◌, IsTrue, IsSome, IfOk, IfSome, All, length, take, nat_eq};
 ghost use Rattle.chase_laws.specs.Joined.{links, Joined};
-ghost use Rattle.proof_graph.specs.Leads.{links_lead};
+ghost use Rattle.proof_file.specs.Leads.{links_lead};
+ghost use Rattle.proof_file.specs.Steps.{NoneTwice};
 ghost use Rattle.proof_graph.specs.Way.{way};
 ghost use Rattle.proof_graph.specs.Tree.{never};
 
@@ -53,7 +54,7 @@ pub fn support(
     ensures some { IfOk result (λ o. IsSome o ↔ Joined (take upto journal.now) a b) }
     ensures leads { IfOk result (λ o. IfSome o (λ places. IsTrue (links_lead nat_eq (links (take upto journal.now)) places.items a b))) }
     ensures below { IfOk result (λ o. IfSome o (λ places. All (λ p. p < upto) places.items)) }
-    ensures once { IfOk result (λ o. IfSome o (λ places. AllPairs (λ p q. p ≢ q) places.items)) }
+    ensures once { IfOk result (λ o. IfSome o (λ places. NoneTwice places.items)) }
 {
     way_of(alloc, &journal[..upto as usize], a, b)
 }

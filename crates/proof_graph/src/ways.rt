@@ -1,6 +1,6 @@
 //! Ways along a journal.
 
-ghost use Rattle.std.specs.Prelude.{◌≡◌, ◌<◌, ◌^◌, ◌++◌, true, IfOk, OnOk, length};
+ghost use Rattle.std.specs.Prelude.{◌≡◌, ◌<◌, ◌^◌, ◌++◌, true, IfOk, OnOk, OnErr, length};
 ghost use Rattle.chase_laws.specs.Joined.{joined_by, links};
 ghost use Rattle.proof_graph.specs.Way.{way};
 
@@ -53,14 +53,21 @@ impl<'a> Ways<'a> {
         are_joined(self.journal, &self.nodes, a, b)
     }
 
-    /// Puts the places of the entries on the way between two joined names at the end, in order.
+    /// Puts the places of the entries on the way between two joined names at the end, in order. After `NoMemory` the list holds
+    /// what it held before.
     pub fn put(&self, alloc: Global, a: u32, b: u32, places: &mut Vec<u32>) -> Result<(), NoMemory>
         requires { joined_by self.now a b ≡ true }
-        ensures { OnOk result (places.new.items ≡ places.old.items ++ way (links self.now) (length self.now) a b) }
+        ensures ok { OnOk result (places.new.items ≡ places.old.items ++ way (links self.now) (length self.now) a b) }
+        ensures err { OnErr result (places.new.items ≡ places.old.items) }
     {
         if a == b {
             return Ok(());
         }
-        put_way(alloc, self.journal, &self.nodes, a, b, places)
+        let before = places.len();
+        let done = put_way(alloc, self.journal, &self.nodes, a, b, places);
+        if done.is_err() {
+            places.truncate(before);
+        }
+        done
     }
 }

@@ -5,7 +5,7 @@ mod refused;
 
 use fixtures::texts::NO_STEPS_1;
 use gk_base::NoMemory;
-use proof_graph::{Proof, ProofFault, ProofRefusal, ProofStop, put_proof, read_proof};
+use proof_file::{Proof, ProofFault, ProofRefusal, ProofStop, put_proof, read_proof};
 use std::alloc::{AllocError, Global};
 use std::test::Fail;
 

@@ -11,7 +11,7 @@ use key_file::KeyFile;
 use key_lang::read_keys;
 use nt_reader::Reader;
 use proof_check::{Reason, Verdict, check};
-use proof_graph::{Proof, put_proof, read_proof};
+use proof_file::{Proof, put_proof, read_proof};
 use std::alloc::{AllocError, Global};
 use std::test::Fail;
 use term_list::Triples;

@@ -1,4 +1,4 @@
-//! Tests of proofs: `proof_graph` and `proof_check`. They stand here and not in those crates, since a crate with tests is proved
+//! Tests of proofs: `proof_file`, `proof_graph` and `proof_check`. They stand here and not in those crates, since a crate with tests is proved
 //! twice.
 //!
 //! - `files`: what is read from proof files, and what is written

@@ -5,7 +5,7 @@ use crate::worked_journals::{ALBUMS, CHAINS, Worked, names};
 use chase_laws::{Entry, Pattern};
 use fixtures::texts::{ALBUM_AND_ARTIST_PROOF, ALBUM_PROOF, NO_STEPS};
 use gk_base::{NoMemory, Text};
-use proof_graph::put_proof;
+use proof_file::put_proof;
 use std::alloc::Global;
 use std::test::Fail;
 use term_table::Names;

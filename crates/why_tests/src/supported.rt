@@ -3,7 +3,7 @@
 ghost use Rattle.std.specs.Prelude.{◌≡◌, ◌<◌, ◌^◌, true, Some, IfOk, All, length};
 ghost use Rattle.chase_laws.specs.Shape.{is_entity};
 ghost use Rattle.proof_graph.specs.Built.{IsJoinedAt};
-ghost use Rattle.proof_graph.specs.Tells.{IsSupported, AreSupported};
+ghost use Rattle.proof_file.specs.Tells.{IsSupported, AreSupported};
 
 use chase_laws::{Entry, Pattern, Places, Slot};
 use gk_base::NoMemory;

@@ -3,7 +3,7 @@
 use super::{ONE_STEP, ONE_STEP_1};
 use fixtures::texts::{ALBUM_AND_ARTIST_PROOF, ALBUM_AND_ARTIST_PROOF_1};
 use gk_base::LexFault;
-use proof_graph::ProofFault;
+use proof_file::ProofFault;
 
 /// What comes after good lines, the line that is refused, and why.
 pub(crate) type Refused = (&'static [u8], u64, ProofFault);

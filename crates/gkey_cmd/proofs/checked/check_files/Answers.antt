@@ -1,8 +1,6 @@
--- The checker's verdict; what the steps of an accepted proof join is the same, since they are a derivation.
+-- The checker's verdict, with what the law of accepted proofs says of it.
 use Rattle.std.proofs.Common.{◌∙◌, ap}
 use Rattle.key_file.specs.KeyFile.{IsKeyFile}
-use Rattle.key_file.specs.Numbered.{names_for}
-use Rattle.proof_check.specs.StepEntries.{step_entries}
 use Rattle.gkey_cmd.specs.Checked.{verdict_answer, verdict_text}
 use Rattle.gkey_cmd.proofs.checked.check_files.Goals as goal
 
@@ -16,9 +14,6 @@ returns c = λ triples ready.
     record {
       answered = c.verdict_answer.ensures ∙ ap verdict_answer is;
       written = c.in_ok-verdict_text.ensures ∙ ap verdict_text is;
-      same = λ count accepted a b joined. (
-        step_entries (names_for triples keys) keys steps,
-        c.law_proof.ensures.derivation triples keys steps count are_keys accepted,
-        joined,
-      );
+      counted = λ count accepted. c.law_proof.ensures.count triples keys steps count accepted;
+      same = λ count accepted. c.law_proof.ensures.same triples keys steps count are_keys accepted;
     }

@@ -3,7 +3,7 @@ use Rattle.std.proofs.Common.{List, ℕ, Some, All, map, length, slice_get, ◌+
 use Rattle.chase_laws.specs.Shape.{Shape, IsPattern, PatternFacts}
 use Rattle.chase_laws.specs.Chase.{IsDerivation}
 use Rattle.key_file.specs.KeyShape.{KeyShape}
-use Rattle.proof_graph.specs.CanonicalProof.{proof_text}
+use Rattle.proof_file.specs.CanonicalProof.{proof_text}
 use Rattle.why_pair.specs.Why.{TellsPart}
 use Rattle.gkey_cmd.proofs.Derived.{derived_supported}
 use Rattle.gkey_cmd.proofs.Reasons.{pair_told}

@@ -3,9 +3,9 @@ use Rattle.std.proofs.Common.{List, ℕ, Some, Ok, All, map, length, slice_get, 
 use Rattle.chase_laws.specs.Shape.{Shape, IsPattern, PatternFacts}
 use Rattle.chase_laws.specs.Chase.{IsDerivation}
 use Rattle.key_file.specs.KeyShape.{KeyShape}
-use Rattle.proof_graph.specs.Tells.{TellsAll}
-use Rattle.proof_graph.specs.ProofText.{ProofSays}
-use Rattle.proof_graph.specs.CanonicalProof.{proof_text}
+use Rattle.proof_file.specs.Tells.{TellsAll}
+use Rattle.proof_file.specs.ProofText.{ProofSays}
+use Rattle.proof_file.specs.CanonicalProof.{proof_text}
 use Rattle.gkey_cmd.proofs.Derived.{derived_supported, told_links, few_entries}
 use Rattle.gkey_cmd.proofs.proved.journal_text.Goals as goal
 
@@ -29,7 +29,7 @@ returns c =
     let facts = subst (λ k. (key : ℕ) (Q : Shape) → slice_get k key ≡ Some Q → PatternFacts Q) same c.all_valid.ensures.facts in
     let valid = subst (All IsPattern) same c.all_valid.ensures.valid in
     let supported = derived_supported G K (length names) c.graph-graph.ensures.task.graph facts c.requires.named H c.requires.finished.derivation in
-    let by_patterns = subst (λ k. TellsAll names k c.deref.result.now H steps) same c.in_ok-proof.ensures in
+    let by_patterns = subst (λ k. TellsAll names k c.deref.result.now H steps) same c.in_ok-proof.ensures.tells in
     let tells = subst (λ ns. TellsAll names K ns H steps) (c.deref.ensures.value ∙ c.in_ok-key_names.ensures) by_patterns in
     let written : c.put_proof.new.buf.items ≡ proof_text steps = c.in_ok-put_proof.ensures.ok ∙ ap (λ (b : List ℕ). b ++ proof_text steps) c.new-text.ensures.items in
     record {

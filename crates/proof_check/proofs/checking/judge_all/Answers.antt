@@ -1,5 +1,5 @@
 use Rattle.std.proofs.Common.{◌<◌, All, length, subst, sym}
-use Rattle.proof_graph.specs.Steps.{IsNumberedBelow}
+use Rattle.proof_file.specs.Steps.{IsNumberedBelow}
 use Rattle.proof_check.proofs.ListFacts.{places_below}
 use Rattle.proof_check.proofs.checking.judge_all.Goals as goal
 

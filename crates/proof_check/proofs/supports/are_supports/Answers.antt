@@ -1,8 +1,8 @@
 use Rattle.std.proofs.Common.{◌+◌, ◌==◌, nat_lt, bytes_eq, map, slice_index, length, drop, arith, sym, ap, ◌∙◌}
 use Rattle.std.proofs.lemmas.Bool.{and_parts, ltb-true}
 use Rattle.chase_laws.specs.declared.pattern.Slot.TheVariants.{Entity}
-use Rattle.proof_graph.specs.Steps.{SupportShape}
-use Rattle.proof_graph.specs.Tells.{entities_from}
+use Rattle.proof_file.specs.Steps.{SupportShape}
+use Rattle.proof_file.specs.Tells.{entities_from}
 use Rattle.proof_check.proofs.StepLemmas.{slot_skipped, slot_supported, slot_unsupported}
 use Rattle.proof_check.proofs.supports.are_supports.Goals as goal
 use Rattle.proof_check.proofs.supports.are_supports.Goals.{then-is_entity+else-not-is_support_of, else-is_entity}

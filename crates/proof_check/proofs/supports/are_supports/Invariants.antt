@@ -1,6 +1,6 @@
 use Rattle.std.proofs.Common.{◌≡◌, ◌≤◌, drop, length, map, bytes_eq}
-use Rattle.proof_graph.specs.Steps.{SupportShape}
-use Rattle.proof_graph.specs.Tells.{entities_from, supported_slots}
+use Rattle.proof_file.specs.Steps.{SupportShape}
+use Rattle.proof_file.specs.Tells.{entities_from, supported_slots}
 use Rattle.proof_check.proofs.supports.are_supports.Given as goal
 
 abbrev pub invariant-loop-at : goal.invariant-loop-at

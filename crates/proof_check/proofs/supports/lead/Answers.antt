@@ -1,7 +1,7 @@
 use Rattle.std.proofs.Common.{◌-◌, ◌+◌, nat_eq, get_or, drop, arith, sym, ap, ◌∙◌}
 use Rattle.std.proofs.lemmas.Option.{slice_get-get_or}
-use Rattle.proof_graph.specs.Leads.{end_along, arrives}
-use Rattle.proof_graph.specs.Tells.{places_of}
+use Rattle.proof_file.specs.Leads.{end_along, arrives}
+use Rattle.proof_file.specs.Tells.{places_of}
 use Rattle.proof_check.proofs.StepLemmas.{lead_step, end_along_nowhere}
 use Rattle.proof_check.proofs.supports.lead.Goals as goal
 

@@ -1,6 +1,6 @@
 use Rattle.std.proofs.Common.{◌≡◌, drop, nat_eq}
-use Rattle.proof_graph.specs.Leads.{links_lead}
-use Rattle.proof_graph.specs.Tells.{places_of}
+use Rattle.proof_file.specs.Leads.{links_lead}
+use Rattle.proof_file.specs.Tells.{places_of}
 use Rattle.proof_check.proofs.supports.lead.Given as goal
 
 abbrev pub invariant-loop-n : goal.invariant-loop-n

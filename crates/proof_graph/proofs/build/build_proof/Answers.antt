@@ -2,11 +2,11 @@ use Rattle.std.proofs.Common.{[], ◌∷◌, ◌++◌, ◌+◌, ◌≡◌, Some,
 use Rattle.std.proofs.lemmas.List.{take_all, map_more, get_or_read}
 use Rattle.std.proofs.lemmas.Option.{slice_get_within, slice_get-get_or}
 use Rattle.term_table.specs.Numbering.{with_terms, names_of}
-use Rattle.proof_graph.specs.Steps.{step_terms, steps_terms, in_numbers}
-use Rattle.proof_graph.specs.Tells.{TellsAll}
+use Rattle.proof_file.specs.Steps.{NoneTwiceInSupports, step_terms, steps_terms, in_numbers}
+use Rattle.proof_file.specs.Tells.{TellsAll}
 use Rattle.proof_graph.specs.Built.{built_entry, FitsPattern}
-use Rattle.proof_graph.proofs.InNumbers.{names_more, numbers_more, in_numbers_parts}
-use Rattle.proof_graph.proofs.TellsLemmas.{supported_fits, told_all, entry_is}
+use Rattle.proof_file.proofs.CallerLemmas.{names_more, numbers_more, in_numbers_parts}
+use Rattle.proof_graph.proofs.TellsLemmas.{supported_fits, told_all, once_all, entry_is}
 use Rattle.proof_graph.proofs.build.build_proof.Goals as goal
 
 pub bounds-patterns-key : goal.bounds-patterns-key
@@ -76,8 +76,8 @@ invariant_of-result c =
     let B = built_entry c.args.names.now c.args.patterns.now c.args.key_names.now c.args.journal.now in
     (in_numbers_parts (map B (take i c.args.journal.now)) c.loop-entry.numbers.terms c.loop-entry.steps.items c.loop-entry.invariant.terms c.loop-entry.invariant.steps).0
 
-pub returns : goal.returns
-returns c =
+pub returns-clause-tells : goal.returns-clause-tells
+returns-clause-tells c =
     let H = c.args.journal.now in
     let i = c.loop-entry.entry-index in
     let B = built_entry c.args.names.now c.args.patterns.now c.args.key_names.now H in
@@ -85,3 +85,13 @@ returns c =
     let view = (in_numbers_parts (map B (take i H)) c.loop-entry.numbers.terms c.loop-entry.steps.items c.loop-entry.invariant.terms c.loop-entry.invariant.steps).1 in
     subst (TellsAll c.args.names.now c.args.patterns.now c.args.key_names.now H) (sym (view ∙ ap (map B) (take_all i H past)))
     (told_all c.args.names.now c.len-distinct.ensures.distinct c.args.patterns.now c.args.key_names.now H c.all_valid.ensures.facts c.requires.supported c.requires.named)
+
+pub returns-clause-once : goal.returns-clause-once
+returns-clause-once c =
+    let H = c.args.journal.now in
+    let i = c.loop-entry.entry-index in
+    let B = built_entry c.args.names.now c.args.patterns.now c.args.key_names.now H in
+    let past = c.loop-entry-test.false in
+    let view = (in_numbers_parts (map B (take i H)) c.loop-entry.numbers.terms c.loop-entry.steps.items c.loop-entry.invariant.terms c.loop-entry.invariant.steps).1 in
+    subst NoneTwiceInSupports (sym (view ∙ ap (map B) (take_all i H past)))
+    (once_all c.args.names.now c.len-distinct.ensures.distinct c.args.patterns.now c.args.key_names.now H c.all_valid.ensures.facts c.requires.supported c.requires.named)

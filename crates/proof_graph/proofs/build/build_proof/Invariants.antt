@@ -1,7 +1,7 @@
 use Rattle.std.proofs.Common.{◌≡◌, map, take}
 use Rattle.term_table.specs.Numbering.{names_of}
-use Rattle.proof_graph.specs.Steps.{steps_terms, in_numbers}
-use Rattle.proof_graph.specs.TermNumbers.{NotesPlaces}
+use Rattle.proof_file.specs.Steps.{steps_terms, in_numbers}
+use Rattle.proof_file.specs.TermNumbers.{NotesPlaces}
 use Rattle.proof_graph.specs.Built.{built_entry}
 use Rattle.proof_graph.proofs.build.build_proof.Given as goal
 

@@ -1,9 +1,9 @@
 use Rattle.std.proofs.Common.{map, ap, ◌∙◌}
 use Rattle.term_table.specs.Numbering.{place_of, with_terms}
-use Rattle.proof_graph.specs.Steps.{term_at}
-use Rattle.proof_graph.specs.Tells.{supported_slots}
+use Rattle.proof_file.specs.Steps.{term_at}
+use Rattle.proof_file.specs.Tells.{supported_slots}
 use Rattle.proof_graph.specs.Built.{built_support}
-use Rattle.proof_graph.proofs.InNumbers.{left_stays}
+use Rattle.proof_file.proofs.CallerLemmas.{left_stays}
 use Rattle.proof_graph.proofs.build.step.Goals as goal
 
 pub returns-clause-step : goal.returns-clause-step

@@ -12,6 +12,6 @@ step_numbers-requires c =
     let y = c.get-2.result in
     let joins = ap₂ (joined_by H) c.get.ensures c.get-2.ensures ∙ c.requires.joined in
     let few = c.requires.few in
-    let is = c.deref.ensures.value ∙ c.in_ok-put.ensures ∙ ap (λ l. l ++ way (links H) (length H) x y) c.new-places.ensures.items in
+    let is = c.deref.ensures.value ∙ c.in_ok-put.ensures.ok ∙ ap (λ l. l ++ way (links H) (length H) x y) c.new-places.ensures.items in
     subst (All (λ p. p < 4294967295)) (sym is)
     (All-weaker (λ p. p < length H) (λ p. p < 4294967295) (λ p h. omega arith) (way (links H) (length H) x y) (way_below H x y joins))

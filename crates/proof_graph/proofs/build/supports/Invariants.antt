@@ -1,5 +1,5 @@
 use Rattle.std.proofs.Common.{◌≡◌, ◌++◌, drop, map}
-use Rattle.proof_graph.specs.Tells.{entities_from, supported_slots}
+use Rattle.proof_file.specs.Tells.{entities_from, supported_slots}
 use Rattle.proof_graph.specs.Built.{built_support}
 use Rattle.proof_graph.proofs.build.supports.Given as goal
 

@@ -33,6 +33,7 @@ loop-part-preserved-in-Continue-branch-2 c =
       whole = ap (λ l. c.loop-part.places.items ++ parts_places ps k l) c.in_ok-divide-in-Some-meet.ensures
           ∙ ap (λ l. c.loop-part.places.items ++ l) (pieces_divided ps k c.pop.new.self.items part m whole c.in-Some-meet.ensures.some)
           ∙ ap (λ l. c.loop-part.places.items ++ parts_places ps k l) (sym c.in-Some.ensures.items) ∙ c.loop-part.invariant.whole;
+      kept = c.loop-part.invariant.kept;
     }
 
 pub loop-part-preserved : goal.loop-part-preserved
@@ -46,8 +47,13 @@ loop-part-preserved c =
     let same = same_or part.from part.to ps c.in-None.ensures.none both.1.2 in
     record {
       each = both.0;
-      whole = ap (λ l. l ++ parts_places ps k c.pop.new.self.items) c.in_ok-put_some-in-None.ensures
+      whole = ap (λ l. l ++ parts_places ps k c.pop.new.self.items) c.in_ok-put_some-in-None.ensures.ok
           ∙ append_assoc c.loop-part.places.items (option_to_list part.then) (parts_places ps k c.pop.new.self.items)
           ∙ ap (λ l. c.loop-part.places.items ++ l) (sym (pieces_same ps k c.pop.new.self.items part same))
           ∙ ap (λ l. c.loop-part.places.items ++ parts_places ps k l) (sym c.in-Some.ensures.items) ∙ c.loop-part.invariant.whole;
+      kept = record {
+        more = c.loop-part.invariant.kept.more ++ option_to_list part.then;
+        is = c.in_ok-put_some-in-None.ensures.ok ∙ ap (λ l. l ++ option_to_list part.then) c.loop-part.invariant.kept.is
+            ∙ append_assoc c.args.places.now.items c.loop-part.invariant.kept.more (option_to_list part.then);
+      };
     }

@@ -1,7 +1,8 @@
-use Rattle.std.proofs.Common.{◌<◌, ◌≢◌, nat_eq, IsTrue, All, AllPairs, length, take, subst}
+use Rattle.std.proofs.Common.{◌<◌, nat_eq, IsTrue, All, length, take, subst}
 use Rattle.std.proofs.lemmas.List.{length-take-le}
 use Rattle.chase_laws.specs.Joined.{links}
-use Rattle.proof_graph.specs.Leads.{links_lead}
+use Rattle.proof_file.specs.Leads.{links_lead}
+use Rattle.proof_file.specs.Steps.{NoneTwice}
 use Rattle.proof_graph.specs.Way.{way}
 use Rattle.proof_graph.proofs.SupportLemmas.{of_places, way_leads, way_below, way_once}
 use Rattle.proof_graph.proofs.supports.support.Goals as goal
@@ -22,5 +23,5 @@ returns-clause-below c =
 pub returns-clause-once : goal.returns-clause-once
 returns-clause-once c =
     let H = take c.args.upto c.args.journal.now in
-    of_places (λ v. v.items) (AllPairs (λ p q. p ≢ q)) H c.args.a c.args.b c.way_of.result c.way_of.ensures.some c.way_of.ensures.way
+    of_places (λ v. v.items) NoneTwice H c.args.a c.args.b c.way_of.result c.way_of.ensures.some c.way_of.ensures.way
     (λ h. way_once H c.args.a c.args.b h)

@@ -1,6 +1,6 @@
 use Rattle.std.proofs.Common.{ℕ, ◌<◌, ◌≡◌, Some, length, slice_get, take}
 use Rattle.chase_laws.specs.declared.entry.Entry.{Entry}
-use Rattle.proof_graph.specs.Tells.{IsSupported}
+use Rattle.proof_file.specs.Tells.{IsSupported}
 use Rattle.why_tests.proofs.supported.are_supported.Given as goal
 
 abbrev pub invariant-loop-at : goal.invariant-loop-at

@@ -3,7 +3,7 @@ use Rattle.std.proofs.Common.{List, [], ◌≡◌, All, map, length, sym, ap, �
 use Rattle.std.proofs.lemmas.Result.{IfOk-weaker}
 use Rattle.gk_base.specs.declared.term.Triple.{Triple}
 use Rattle.key_file.specs.KeyFile.{IsKeyFile}
-use Rattle.proof_graph.specs.Steps.{StepNumbers, IsNumberedBelow}
+use Rattle.proof_file.specs.Steps.{StepNumbers, IsNumberedBelow}
 use Rattle.proof_check.specs.Verdict.{verdict}
 use Rattle.proof_check.specs.Ready.{IsMadeOf, IsReady, renumbered, verdict_with}
 use Rattle.proof_check.specs.declared.checker.Checker.{Checker}

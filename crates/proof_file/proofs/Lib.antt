@@ -1,0 +1,21 @@
+pub mod CallerLemmas
+mod InNumbers
+mod OrderLemmas
+mod NamedLemmas
+mod PlacedLemmas
+mod SlotLemmas
+mod PieceLemmas
+mod WordLemmas
+mod DecimalLemmas
+mod StatementLemmas
+mod SideLemmas
+mod SplitLemmas
+mod ProgressLemmas
+mod OnceLemmas
+mod ReadableLemmas
+mod FormLemmas
+mod ReadBack
+mod ToldLemmas
+mod TotalLemmas
+mod LineLemmas
+mod ReadLemmas

@@ -1,6 +1,0 @@
-use Rattle.proof_graph.specs.InOrder.{ComeInOrder}
-use Rattle.proof_graph.proofs.OrderLemmas.{FirstOf}
-use Rattle.proof_graph.proofs.in_order.after_side.Given as goal
-
-abbrev pub invariant-loop-number : goal.invariant-loop-number
-invariant-loop-number l = ComeInOrder l.come l.more (FirstOf l.side l.number-index)
