@@ -7,12 +7,12 @@ use Rattle.chase_laws.specs.Shape.{Shape, PatternFacts}
 use Rattle.chase_laws.specs.Joined.{joined_by, links}
 use Rattle.term_table.specs.Numbering.{AreDistinct}
 use Rattle.proof_graph.specs.Way.{way}
-use Rattle.proof_graph.specs.Steps.{StepShape, term_at}
-use Rattle.proof_graph.specs.Tells.{AreSupported, TellsAll}
+use Rattle.proof_file.specs.Steps.{StepShape, NoneTwice, NoneTwiceInSupports, term_at}
+use Rattle.proof_file.specs.Tells.{AreSupported, TellsAll}
 use Rattle.why_pair.specs.Kept.{kept_by}
 use Rattle.why_pair.specs.Marking.{MarksFrom}
 use Rattle.why_pair.specs.Relinked.{places_from, step_number, HasPlaces, IsLinked, relinked_step, with_each}
-use Rattle.why_pair.specs.Why.{StepsLead, NoneTwice, NoneTwiceInSupports, AllReached, TellsPart}
+use Rattle.why_pair.specs.Why.{StepsLead, AllReached, TellsPart}
 use Rattle.why_pair.proofs.LeadLemmas.{length-places_from, places_small}
 use Rattle.why_pair.proofs.WhyLemmas.{linked_all, anew, part_anew, once_anew, goal_numbers, goal_once, goal_there, all_reached}
 

@@ -5,10 +5,9 @@ use Rattle.std.proofs.lemmas.Bool.{cases_lt, cases_Bool, cond-true, cond-false, 
 use Rattle.std.proofs.lemmas.Option.{slice_get-get_or}
 use Rattle.chase_laws.specs.Joined.{joined}
 use Rattle.chase_laws.proofs.CallerLemmas.{joined_refl, joined_sym, joined_trans, joined_head, Within-more, slice_get-map_from}
-use Rattle.proof_graph.specs.Leads.{other_end, end_along}
-use Rattle.proof_graph.specs.Tells.{is_earlier, places_of}
-use Rattle.why_pair.specs.Kept.{place_kept}
-use Rattle.why_pair.specs.Marking.{IsMarkedAt}
+use Rattle.proof_file.specs.Leads.{other_end, end_along}
+use Rattle.proof_file.specs.Tells.{is_earlier, places_of}
+use Rattle.why_pair.specs.Kept.{IsMarkedAt, place_kept}
 use Rattle.why_pair.specs.Relinked.{places_from, step_number}
 use Rattle.proof_graph.proofs.CallerLemmas.{Once}
 use Rattle.why_pair.proofs.KeptLemmas.{place_less}

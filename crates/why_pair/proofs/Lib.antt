@@ -7,3 +7,5 @@ mod LeadLemmas
 mod PartLemmas
 mod WhyLemmas
 mod FoundLemmas
+mod ToldLemmas
+mod ProvableLemmas

@@ -7,7 +7,7 @@ use Rattle.std.proofs.lemmas.List.Elements.{All-cons, All-head, All-tail}
 use Rattle.gk_base.specs.declared.term.Term.{Term}
 use Rattle.chase_laws.specs.declared.entry.Entry.{Entry}
 use Rattle.term_table.specs.Numbering.{names_of}
-use Rattle.proof_graph.specs.Steps.{StepNumbers, step_terms, steps_terms, step_with, IsNumberedBelow, IsProof}
+use Rattle.proof_file.specs.Steps.{StepNumbers, step_terms, steps_terms, step_with, IsNumberedBelow, IsProof}
 use Rattle.why_pair.specs.Relinked.{relinked_numbers, relinked_step, with_each}
 
 -- what the iterator of a vector has given is a front of its items

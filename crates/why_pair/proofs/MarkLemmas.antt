@@ -6,8 +6,9 @@ use Rattle.chase_laws.specs.declared.entry.Entry.{Entry}
 use Rattle.chase_laws.specs.Shape.{Shape}
 use Rattle.chase_laws.proofs.CallerLemmas.{Contains-from_slice_get, slice_get-from_Contains}
 use Rattle.proof_graph.specs.Built.{pattern_at}
+use Rattle.why_pair.specs.Kept.{IsMarkedAt}
 use Rattle.why_pair.specs.Needed.{needs_of, in_goal, by_entry}
-use Rattle.why_pair.specs.Marking.{with_marks, IsMarkedAt, MarksFrom}
+use Rattle.why_pair.specs.Marking.{with_marks, MarksFrom}
 
 set_stays : (marks : List Bool) (i p : ℕ) → IsMarkedAt marks p → IsMarkedAt (slice_set marks i true) p
 set_stays [] i p h = absurd cc

@@ -10,10 +10,11 @@ use Rattle.chase_laws.specs.Shape.{Shape}
 use Rattle.chase_laws.specs.Joined.{joined, joined_by, links}
 use Rattle.chase_laws.proofs.CallerLemmas.{slice_get-from_Contains}
 use Rattle.proof_graph.specs.Way.{way}
-use Rattle.proof_graph.specs.Tells.{supported_slots, AreSupported}
+use Rattle.proof_file.specs.Tells.{supported_slots, AreSupported}
 use Rattle.proof_graph.specs.Built.{pattern_at, IsJoinedAt}
 use Rattle.why_pair.specs.Needed.{way_at, needs_of}
-use Rattle.proof_graph.proofs.CallerLemmas.{fronts, on_way, supported_at, way-stable}
+use Rattle.proof_file.proofs.CallerLemmas.{supported_at}
+use Rattle.proof_graph.proofs.CallerLemmas.{fronts, on_way, way-stable}
 
 -- ---- lists of lists
 

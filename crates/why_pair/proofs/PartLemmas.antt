@@ -10,13 +10,13 @@ use Rattle.chase_laws.specs.Valuation.{AgreeAt}
 use Rattle.chase_laws.specs.Chase.{IsDerivation}
 use Rattle.chase_laws.specs.Joined.{joined, joined_by, links}
 use Rattle.chase_laws.proofs.CallerLemmas.{Contains-from_slice_get}
-use Rattle.proof_graph.specs.Leads.{end_along}
+use Rattle.proof_file.specs.Leads.{end_along}
 use Rattle.proof_graph.specs.Way.{way}
-use Rattle.proof_graph.specs.Tells.{supported_slots, AreSupported}
+use Rattle.proof_file.specs.Tells.{supported_slots, AreSupported}
 use Rattle.proof_graph.specs.Built.{pattern_at}
-use Rattle.why_pair.specs.Kept.{kept_by, place_kept}
-use Rattle.why_pair.specs.Needed.{way_at}
-use Rattle.why_pair.specs.Marking.{IsMarkedAt, MarksFrom}
+use Rattle.why_pair.specs.Kept.{IsMarkedAt, kept_by, place_kept}
+use Rattle.why_pair.specs.Needed.{AreClosed, way_at}
+use Rattle.why_pair.specs.Marking.{MarksFrom}
 use Rattle.proof_graph.proofs.CallerLemmas.{fronts, way-end_along}
 use Rattle.why_pair.proofs.SlotLemmas.{supported_has}
 use Rattle.why_pair.proofs.KeptLemmas.{at_kept, kept_at, place_less}
@@ -37,30 +37,34 @@ agree G same more s Value m n has h = h
 agree G same more s Folded m n has h = h
 agree G same more s (Fixed c) m n has h = h
 
-module _ (names : ℕ) (K : List Shape) (H : List Entry) (sup : AreSupported names K H) (marks : List Bool) (goal : List ℕ) (m : MarksFrom K H goal 0 marks) where
+-- marks of what a goal needs are closed under need
+pub closed_marks : (K : List Shape) (H : List Entry) (goal : List ℕ) (marks : List Bool) → MarksFrom K H goal 0 marks → AreClosed K H marks
+closed_marks K H goal marks m p q e at marked need = m.closed p q e (omega arith) at marked need
+
+module _ (names : ℕ) (K : List Shape) (H : List Entry) (sup : AreSupported names K H) (marks : List Bool) (closed : AreClosed K H marks) where
   abbrev pub kept : List Entry
   kept = kept_by marks H
 
   -- a link that is kept, among those before a place
-  link_before : (i q : ℕ) → IsMarkedAt marks q → place_kept marks q < i → slice_get (links (take i kept)) (place_kept marks q) ≡ slice_get (links H) q
-  link_before i q marked less =
+  pub link_before : (i q : ℕ) → q < length H → IsMarkedAt marks q → place_kept marks q < i → slice_get (links (take i kept)) (place_kept marks q) ≡ slice_get (links H) q
+  link_before i q inside marked less =
       let f : Entry → ℕ × ℕ = λ e. (e.a, e.b) in
-      let w = slice_get_within marks q true marked in
-      let count = m.count in
       let e : Entry = get_or H q (record { a = 0; b = 0; key = 0; left = []; right = [] }) in
-      let at : slice_get H q ≡ Some e = slice_get-get_or H q (record { a = 0; b = 0; key = 0; left = []; right = [] }) (omega arith) in
+      let at : slice_get H q ≡ Some e = slice_get-get_or H q (record { a = 0; b = 0; key = 0; left = []; right = [] }) inside in
       slice_get-map f (take i kept) (place_kept marks q)
       ∙ ap (option_map f) (slice-take kept i (place_kept marks q) less ∙ kept_at marks H q e at marked ∙ sym at)
       ∙ sym (slice_get-map f H q)
 
   -- what an entry with a mark needs has one
   pub way_marked : (p : ℕ) (e : Entry) → slice_get H p ≡ Some e → IsMarkedAt marks p → (k s : ℕ) → slice_get (supported_slots (pattern_at K e.key).slots) k ≡ Some s →
-      (j q : ℕ) → slice_get (way_at H e s) j ≡ Some q → IsMarkedAt marks q × (place_kept marks q < place_kept marks p)
+      (j q : ℕ) → slice_get (way_at H e s) j ≡ Some q → IsMarkedAt marks q × (place_kept marks q < place_kept marks p) × (q < length H)
   way_marked p e at marked k s in_slots j q in_way =
       let o = slot_of names K H sup p e at k s in_slots in
       let c = Contains-from_slice_get (way_at H e s) j q in_way in
-      let is = m.closed q p e (omega arith) at marked (flat_in (way_at H e) (supported_slots (pattern_at K e.key).slots) q k s in_slots c) in
-      (is, place_less marks q p (way_below names K H sup p e at s q o c) is)
+      let is = closed q p e at marked (flat_in (way_at H e) (supported_slots (pattern_at K e.key).slots) q k s in_slots c) in
+      let before = way_below names K H sup p e at s q o c in
+      let inside = slice_get_within H p e at in
+      (is, place_less marks q p before is, omega arith)
 
   -- the way between its images leads along the kept entries before it
   pub kept_leads : (p : ℕ) (e : Entry) (at : slice_get H p ≡ Some e) → IsMarkedAt marks p → (k s : ℕ) → slice_get (supported_slots (pattern_at K e.key).slots) k ≡ Some s →
@@ -72,7 +76,7 @@ module _ (names : ℕ) (K : List Shape) (H : List Entry) (sup : AreSupported nam
       let l = slice_get_within H p e at in
       let all = fronts (links H) p (length H) (omega arith) x y o.joined in
       led_same (links H) (links (take (place_kept marks p) kept)) (place_kept marks) (way_at H e s)
-      (λ j q in_way. let r = way_marked p e at marked k s in_slots j q in_way in link_before (place_kept marks p) q r.0 r.1) (Some x)
+      (λ j q in_way. let r = way_marked p e at marked k s in_slots j q in_way in link_before (place_kept marks p) q r.2 r.0 r.1) (Some x)
       ∙ way-end_along (links H) (length H) x y all
 
   -- so they join them
@@ -120,32 +124,6 @@ module _ (names : ℕ) (K : List Shape) (H : List Entry) (sup : AreSupported nam
         };
       }
 
-  -- the goal's way leads along them all
-  pub goal_marked : (j q : ℕ) → slice_get goal j ≡ Some q → IsMarkedAt marks q
-  goal_marked j q at = m.goal_marked q (Contains-from_slice_get goal j q at)
-
-  pub goal_placed : (j q : ℕ) → slice_get goal j ≡ Some q → place_kept marks q < length kept
-  goal_placed j q at =
-      let marked = goal_marked j q at in
-      let w = slice_get_within marks q true marked in
-      let count = m.count in
-      let e : Entry = get_or H q (record { a = 0; b = 0; key = 0; left = []; right = [] }) in
-      let there : slice_get H q ≡ Some e = slice_get-get_or H q (record { a = 0; b = 0; key = 0; left = []; right = [] }) (omega arith) in
-      slice_get_within kept (place_kept marks q) e (kept_at marks H q e there marked)
-
-  pub goal_leads : (a b : ℕ) → joined_by H a b ≡ true → goal ≡ way (links H) (length H) a b → end_along nat_eq (links kept) (map (place_kept marks) goal) (Some a) ≡ Some b
-  goal_leads a b joins is =
-      let all : take (length kept) kept ≡ kept = take_whole kept in
-      ap (λ (l : List Entry). end_along nat_eq (links l) (map (place_kept marks) goal) (Some a)) (sym all)
-      ∙ led_same (links H) (links (take (length kept) kept)) (place_kept marks) goal
-      (λ j q at. link_before (length kept) q (goal_marked j q at) (goal_placed j q at)) (Some a)
-      ∙ ap (λ ns. end_along nat_eq (links H) ns (Some a)) is
-      ∙ way-end_along (links H) (length H) a b (ap (λ ps. joined ps a b) (all_links H) ∙ joins)
-    where
-      take_whole : {X : Type 0} (xs : List X) → take (length xs) xs ≡ xs
-      take_whole [] = refl
-      take_whole (x ∷ xs) = ap (λ ys. x ∷ ys) (take_whole xs)
-
   -- the names of an end
   pub ends_named : ((key : ℕ) (Q : Shape) → slice_get K key ≡ Some Q → PatternFacts Q) → (k : ℕ) (e : Entry) → slice_get kept k ≡ Some e →
       (0 < length e.left) × (0 < length e.right) × (e.a < names) × (e.b < names)
@@ -159,3 +137,35 @@ module _ (names : ℕ) (K : List Shape) (H : List Entry) (sup : AreSupported nam
       let l : 0 < length e.left = omega arith in
       let n : 0 < length e.right = omega arith in
       (l, n, subst (λ v. v < names) u.at_a (u.left_named 0 0 l), subst (λ v. v < names) u.at_b (u.right_named 0 0 n))
+
+-- the goal's way leads along them all
+module _ (names : ℕ) (K : List Shape) (H : List Entry) (sup : AreSupported names K H) (marks : List Bool) (goal : List ℕ) (m : MarksFrom K H goal 0 marks) where
+  pub goal_marked : (j q : ℕ) → slice_get goal j ≡ Some q → IsMarkedAt marks q
+  goal_marked j q at = m.goal_marked q (Contains-from_slice_get goal j q at)
+
+  goal_inside : (j q : ℕ) → slice_get goal j ≡ Some q → q < length H
+  goal_inside j q at =
+      let w = slice_get_within marks q true (goal_marked j q at) in
+      let count = m.count in
+      omega arith
+
+  pub goal_placed : (j q : ℕ) → slice_get goal j ≡ Some q → place_kept marks q < length (kept_by marks H)
+  goal_placed j q at =
+      let marked = goal_marked j q at in
+      let e : Entry = get_or H q (record { a = 0; b = 0; key = 0; left = []; right = [] }) in
+      let there : slice_get H q ≡ Some e = slice_get-get_or H q (record { a = 0; b = 0; key = 0; left = []; right = [] }) (goal_inside j q at) in
+      slice_get_within (kept_by marks H) (place_kept marks q) e (kept_at marks H q e there marked)
+
+  pub goal_leads : (a b : ℕ) → joined_by H a b ≡ true → goal ≡ way (links H) (length H) a b → end_along nat_eq (links (kept_by marks H)) (map (place_kept marks) goal) (Some a) ≡ Some b
+  goal_leads a b joins is =
+      let kept = kept_by marks H in
+      let all : take (length kept) kept ≡ kept = take_whole kept in
+      ap (λ (l : List Entry). end_along nat_eq (links l) (map (place_kept marks) goal) (Some a)) (sym all)
+      ∙ led_same (links H) (links (take (length kept) kept)) (place_kept marks) goal
+      (λ j q at. link_before names K H sup marks (closed_marks K H goal marks m) (length kept) q (goal_inside j q at) (goal_marked j q at) (goal_placed j q at)) (Some a)
+      ∙ ap (λ ns. end_along nat_eq (links H) ns (Some a)) is
+      ∙ way-end_along (links H) (length H) a b (ap (λ ps. joined ps a b) (all_links H) ∙ joins)
+    where
+      take_whole : {X : Type 0} (xs : List X) → take (length xs) xs ≡ xs
+      take_whole [] = refl
+      take_whole (x ∷ xs) = ap (λ ys. x ∷ ys) (take_whole xs)

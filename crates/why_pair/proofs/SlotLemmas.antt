@@ -2,7 +2,7 @@
 use Rattle.std.proofs.Common.{List, [], ◌∷◌, ℕ, zero, suc, ◌+◌, Some, slice_get, ◌≡◌, ◌≢◌, refl, ap, ◌∙◌, arith}
 use Rattle.chase_laws.specs.declared.pattern.Slot.{Slot}
 use Rattle.chase_laws.specs.declared.pattern.Slot.TheVariants.{Entity, Any, Value, Folded, Fixed}
-use Rattle.proof_graph.specs.Tells.{entities_from, supported_slots}
+use Rattle.proof_file.specs.Tells.{entities_from, supported_slots}
 
 -- an entity variable stands among those that are counted from a slot on
 entity_has : (first : ℕ) (slots : List Slot) (s t : ℕ) → slice_get slots s ≡ Some (Entity t) → (k : ℕ) × (slice_get (entities_from first slots) k ≡ Some (first + s))

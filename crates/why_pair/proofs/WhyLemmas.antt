@@ -11,22 +11,22 @@ use Rattle.chase_laws.specs.Shape.{Shape, PatternFacts}
 use Rattle.chase_laws.specs.Joined.{joined, joined_by, links}
 use Rattle.chase_laws.proofs.CallerLemmas.{Contains-from_slice_get, slice_get-from_Contains, slice_get-map_from}
 use Rattle.term_table.specs.Numbering.{same_term, AreDistinct}
-use Rattle.proof_graph.specs.Leads.{end_along, arrives, links_lead}
+use Rattle.proof_file.specs.Leads.{end_along, arrives, links_lead}
 use Rattle.proof_graph.specs.Way.{way}
-use Rattle.proof_graph.specs.Steps.{SupportShape, StepShape, term_at, step_ends}
-use Rattle.proof_graph.specs.Tells.{supported_slots, AreSupported, are_earlier, places_of, leads_there, Tells, TellsAll}
+use Rattle.proof_file.specs.Steps.{SupportShape, StepShape, NoneTwice, NoneTwiceInSupports, term_at, step_ends}
+use Rattle.proof_file.specs.Tells.{supported_slots, AreSupported, are_earlier, places_of, leads_there, Tells, TellsAll}
 use Rattle.proof_graph.specs.Built.{pattern_at}
 use Rattle.proof_graph.proofs.CallerLemmas.{fronts, leads_same, way-once}
-use Rattle.why_pair.specs.Kept.{kept_by, place_kept}
-use Rattle.why_pair.specs.Needed.{way_at, IsNeeded, in_goal, by_entry}
-use Rattle.why_pair.specs.Marking.{IsMarkedAt, MarksFrom}
+use Rattle.why_pair.specs.Kept.{IsMarkedAt, kept_by, place_kept}
+use Rattle.why_pair.specs.Needed.{AreClosed, way_at, IsNeeded, in_goal, by_entry}
+use Rattle.why_pair.specs.Marking.{MarksFrom}
 use Rattle.why_pair.specs.Relinked.{places_from, step_number, IsLinked, relinked, relinked_step, with_each}
-use Rattle.why_pair.specs.Why.{StepsLead, NoneTwice, NoneTwiceInSupports, IsStepReached, of_goal, of_step, AllReached, TellsPart}
-use Rattle.why_pair.proofs.KeptLemmas.{at_kept, kept_at}
+use Rattle.why_pair.specs.Why.{StepsLead, IsStepReached, of_goal, of_step, AllReached, TellsPart}
+use Rattle.why_pair.proofs.KeptLemmas.{at_kept, kept_at, kept_lean}
 use Rattle.why_pair.proofs.NeedLemmas.{in_flat, links-take, all_links, pattern_is, slot_of}
 use Rattle.why_pair.proofs.LinkLemmas.{made_at, make_at, length-with_each}
 use Rattle.why_pair.proofs.LeadLemmas.{number_is, numbers_back, numbers_earlier, none_twice}
-use Rattle.why_pair.proofs.PartLemmas.{way_marked, kept_leads, kept_derivation, goal_marked, goal_placed, goal_leads, ends_named}
+use Rattle.why_pair.proofs.PartLemmas.{closed_marks, way_marked, kept_leads, kept_derivation, goal_marked, goal_placed, goal_leads, ends_named}
 
 -- ---- lists
 
@@ -51,6 +51,9 @@ module _ (names : List Term) (distinct : AreDistinct names) (K : List Shape) (ke
     (steps : List StepShape) (told : TellsAll names K key_names (kept_by marks H) steps) where
   abbrev kept : List Entry
   kept = kept_by marks H
+
+  closed : AreClosed K H marks
+  closed = closed_marks K H goal marks m
 
   abbrev places : List ℕ
   places = places_from 0 marks
@@ -93,7 +96,7 @@ module _ (names : List Term) (distinct : AreDistinct names) (K : List Shape) (ke
   ends_anew = ends_same kept anew length-anew (λ k e made at is.
       let r = made_at (relinked_step H places) kept steps k e made at is in
       let t = told.each k e r.0 at r.1 in
-      let n = ends_named (length names) K H sup marks goal m facts k e at in
+      let n = ends_named (length names) K H sup marks closed facts k e at in
       let w = at_kept marks H k e at in
       let u = sup w.place e w.at in
       let left : term_at r.0.left 0 ≡ term_at names e.a = ap (λ l. term_at l 0) t.left ∙ get_or-map (term_at names) e.left 0 0 (Plain []) n.0 ∙ ap (term_at names) u.at_a in
@@ -107,7 +110,7 @@ module _ (names : List Term) (distinct : AreDistinct names) (K : List Shape) (ke
   links_in E inside k p at =
       let f : Entry → ℕ × ℕ = λ e. (e.a, e.b) in
       let r = slice_get-map_from f E k p at in
-      let n = ends_named (length names) K H sup marks goal m facts k r.0 (inside k r.0 r.1) in
+      let n = ends_named (length names) K H sup marks closed facts k r.0 (inside k r.0 r.1) in
       subst (λ (q : ℕ × ℕ). (q.0 < length names) × (q.1 < length names)) r.2 (n.2, n.3)
 
   -- ---- the steps tell the kept entries
@@ -121,7 +124,7 @@ module _ (names : List Term) (distinct : AreDistinct names) (K : List Shape) (ke
       (i q : ℕ) → slice_get (way_at H e u.slot) i ≡ Some q → IsMarkedAt marks q × (place_kept marks q < k)
   on_support k e step at is j u in_supports i q in_way =
       let r = at_kept marks H k e at in
-      let w = way_marked (length names) K H sup marks goal m r.place e r.at r.marked j u.slot (slot_in k e step at is j u in_supports) i q in_way in
+      let w = way_marked (length names) K H sup marks closed r.place e r.at r.marked j u.slot (slot_in k e step at is j u in_supports) i q in_way in
       (w.0, subst (λ n. place_kept marks q < n) r.is w.1)
 
   leads_at : (k : ℕ) (e : Entry) (step : StepShape) → slice_get kept k ≡ Some e → slice_get steps k ≡ Some step → (j : ℕ) (u : SupportShape) → slice_get step.supports j ≡ Some u →
@@ -142,7 +145,7 @@ module _ (names : List Term) (distinct : AreDistinct names) (K : List Shape) (ke
       let right : term_at step.right s ≡ term_at names y = ap (λ l. term_at l s) t.right ∙ get_or-map (term_at names) e.right s 0 (Plain []) o.right in
       let numbers : links_lead nat_eq front (map (place_kept marks) W) x y ≡ true =
       ap (λ n. arrives nat_eq (end_along nat_eq (links (take n kept)) (map (place_kept marks) W) (Some x)) y) (sym r.is)
-      ∙ ap (λ p. arrives nat_eq p y) (kept_leads (length names) K H sup marks goal m r.place e r.at r.marked j s in_slots) ∙ eq-eqb y y refl in
+      ∙ ap (λ p. arrives nat_eq p y) (kept_leads (length names) K H sup marks closed r.place e r.at r.marked j s in_slots) ∙ eq-eqb y y refl in
       ap (λ ends. links_lead same_term ends ns (term_at step.left s) (term_at step.right s)) (ends_before k)
       ∙ ap (λ l. links_lead same_term (map both front) l (term_at step.left s) (term_at step.right s)) back
       ∙ ap₂ (λ v w. links_lead same_term (map both front) (map (place_kept marks) W) v w) left right
@@ -180,7 +183,7 @@ module _ (names : List Term) (distinct : AreDistinct names) (K : List Shape) (ke
   }
 
   pub part_anew : TellsPart names K key_names H anew
-  part_anew = record { marks = marks; tells = tells_anew; derivation = kept_derivation (length names) K H sup marks goal m }
+  part_anew = record { marks = marks; tells = tells_anew; derivation = kept_derivation (length names) K H sup marks closed; lean = kept_lean marks H }
 
   -- ---- none stands twice in a support
 

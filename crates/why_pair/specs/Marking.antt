@@ -3,17 +3,14 @@ use Rattle.std.specs.Prelude.{List, [], ◌∷◌, ℕ, ◌≤◌, Bool, true, S
 use Rattle.chase_laws.specs.declared.entry.Entry.{Entry}
 use Rattle.chase_laws.specs.Shape.{Shape}
 use Rattle.proof_graph.specs.Built.{pattern_at}
-use Rattle.proof_graph.specs.Tells.{AreSupported}
+use Rattle.proof_file.specs.Tells.{AreSupported}
+use Rattle.why_pair.specs.Kept.{IsMarkedAt}
 use Rattle.why_pair.specs.Needed.{needs_of, IsNeeded}
 
 -- these places are marked too
 abbrev pub with_marks : List Bool → List ℕ → List Bool
 with_marks marks [] = marks
 with_marks marks (p ∷ places) = with_marks (slice_set marks p true) places
-
--- a place is marked
-abbrev pub IsMarkedAt : List Bool → ℕ → Type 0
-IsMarkedAt marks p = slice_get marks p ≡ Some true
 
 -- The marks of what a goal needs, as far as the entries from this place on have been looked at: the goal's places are marked,
 -- and what those entries need where they are marked, and only needed places are.

@@ -2,7 +2,7 @@
 use Rattle.std.specs.Prelude.{List, [], ◌∷◌, ℕ, ◌+◌, ◌<◌, ◌^◌, ◌-◌, Bool, true, false, All, map, length, slice_index, ◌≡◌}
 use Rattle.chase_laws.specs.declared.entry.Entry.{Entry}
 use Rattle.chase_laws.specs.Joined.{joined_by}
-use Rattle.proof_graph.specs.Steps.{SupportShape, StepShape, StepNumbers}
+use Rattle.proof_file.specs.Steps.{SupportShape, StepShape, StepNumbers}
 use Rattle.why_pair.specs.Needed.{way_at}
 
 -- for each mark the place that is next to be kept, of which the first is this one

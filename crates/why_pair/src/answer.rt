@@ -1,6 +1,6 @@
 //! Why two names are the same.
 
-use proof_graph::Proof;
+use proof_file::Proof;
 
 /// Why two names are the same: a proof, and the numbers of those of its steps that lead from the one name to the other, in
 /// order. Steps are numbered from 1.

@@ -10,9 +10,9 @@ ghost use Rattle.key_file.specs.Compile.{patterns_of};
 ghost use Rattle.key_file.specs.Numbered.{names_for, graph_of};
 ghost use Rattle.proof_check.specs.Verdict.{verdict};
 ghost use Rattle.proof_check.specs.declared.verdict.Verdict.TheVariants.{Accepted};
-ghost use Rattle.proof_graph.specs.Steps.{term_at};
-ghost use Rattle.proof_graph.specs.Tells.{AreSupported};
-ghost use Rattle.why_pair.specs.Why.{StepsLead, NoneTwice, NoneTwiceInSupports, AllReached, TellsPart};
+ghost use Rattle.proof_file.specs.Steps.{term_at, NoneTwice, NoneTwiceInSupports};
+ghost use Rattle.proof_file.specs.Tells.{AreSupported};
+ghost use Rattle.why_pair.specs.Why.{StepsLead, AllReached, TellsPart};
 
 use crate::Why;
 use crate::keeping::{kept, places_kept, step_numbers};

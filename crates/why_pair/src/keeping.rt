@@ -1,6 +1,6 @@
 //! What is kept of a journal.
 
-ghost use Rattle.std.specs.Prelude.{◌≡◌, ◌<◌, ◌^◌, ◌++◌, ◌∷◌, [], IfOk, OnOk, All, length, map, if◌then◌else◌};
+ghost use Rattle.std.specs.Prelude.{◌≡◌, ◌<◌, ◌^◌, ◌++◌, ◌∷◌, [], IfOk, OnOk, OnErr, All, length, map, if◌then◌else◌};
 ghost use Rattle.why_pair.specs.Kept.{kept_by};
 ghost use Rattle.why_pair.specs.Relinked.{places_from, step_number, HasPlaces};
 
@@ -10,7 +10,8 @@ use std::alloc::Global;
 
 /// Puts an entry at the end, where it has the mark.
 fn keep(kept: &mut Vec<Entry>, entry: &Entry, marked: bool) -> Result<(), NoMemory>
-    ensures { OnOk result (kept.new.items ≡ kept.old.items ++ (if marked then entry.now ∷ [] else [])) }
+    ensures ok { OnOk result (kept.new.items ≡ kept.old.items ++ (if marked then entry.now ∷ [] else [])) }
+    ensures err { OnErr result (kept.new.items ≡ kept.old.items) }
 {
     if marked {
         kept.push(*entry)?;

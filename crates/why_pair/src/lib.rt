@@ -6,7 +6,7 @@
 //! - `marking`: which entries of a journal are needed
 //! - `keeping`: what is kept of a journal
 //! - `relinking`: the supports of what is kept
-//! - `laws`: what holds of parts of a derivation
+//! - `laws`: what holds of parts of a derivation, and which identifications have a proof
 #![tactic(auto)]
 
 mod answer;
@@ -18,4 +18,4 @@ mod relinking;
 
 pub use answer::Why;
 pub use asking::why;
-pub use laws::law_part;
+pub use laws::{law_part, law_provable};

@@ -4,13 +4,14 @@ ghost use Rattle.std.specs.Prelude.{◌≡◌, ℕ, true, Some, IfOk, All, lengt
 ghost use Rattle.chase_laws.specs.Joined.{joined_by, links};
 ghost use Rattle.chase_laws.specs.declared.entry.Entry.{Entry};
 ghost use Rattle.proof_graph.specs.Way.{way};
-ghost use Rattle.proof_graph.specs.Steps.{StepShape};
+ghost use Rattle.proof_file.specs.Steps.{StepShape};
 ghost use Rattle.why_pair.specs.Relinked.{step_number, HasPlaces, IsLinked, relinked, relinked_numbers, relinked_step, with_each};
 
 use crate::keeping::step_numbers;
 use chase_laws::Entry;
 use gk_base::NoMemory;
-use proof_graph::{Proof, ProofStep, Support, Ways};
+use proof_file::{Proof, ProofStep, Support};
+use proof_graph::Ways;
 use std::alloc::Global;
 
 /// The numbers of the steps on the way between two joined names, where the entries have these places among those that are

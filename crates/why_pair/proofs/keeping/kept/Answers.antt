@@ -13,7 +13,7 @@ loop-at-preserved c =
     let same = c.requires in
     let e = c.index-journal-at.result in
     let rest = kept_by (drop (i + 1) M) (drop (i + 1) H) in
-    ap (λ l. l ++ rest) c.in_ok-keep.ensures
+    ap (λ l. l ++ rest) c.in_ok-keep.ensures.ok
     ∙ append_assoc c.loop-at.kept.items (if get_or M i false then e ∷ [] else []) rest
     ∙ ap (λ (f : Entry). c.loop-at.kept.items ++ ((if get_or M i false then f ∷ [] else []) ++ rest)) c.index-journal-at.is
     ∙ ap (λ l. c.loop-at.kept.items ++ l) (sym (kept_more M H i false e (omega arith) past)) ∙ c.loop-at.invariant

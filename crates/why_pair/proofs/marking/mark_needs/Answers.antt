@@ -6,7 +6,8 @@ use Rattle.chase_laws.specs.declared.pattern.Slot.{Slot}
 use Rattle.chase_laws.specs.Shape.{Shape}
 use Rattle.proof_graph.specs.Built.{pattern_at, IsJoinedAt}
 use Rattle.why_pair.specs.Needed.{needs_of}
-use Rattle.why_pair.specs.Marking.{IsMarkedAt, MarksFrom}
+use Rattle.why_pair.specs.Kept.{IsMarkedAt}
+use Rattle.why_pair.specs.Marking.{MarksFrom}
 use Rattle.why_pair.proofs.NeedLemmas.{pattern_is, joined_all, needs_below}
 use Rattle.why_pair.proofs.MarkLemmas.{more_marks, same_marks}
 use Rattle.why_pair.proofs.marking.mark_needs.Goals as goal

@@ -1,6 +1,6 @@
 use Rattle.std.proofs.Common.{◌≡◌, ◌++◌, drop}
 use Rattle.std.specs.List.{flat_map}
-use Rattle.proof_graph.specs.Tells.{entities_from}
+use Rattle.proof_file.specs.Tells.{entities_from}
 use Rattle.why_pair.specs.Needed.{way_at, needs_of}
 use Rattle.why_pair.proofs.marking.needs.Given as goal
 

@@ -3,7 +3,7 @@ use Rattle.std.specs.Option.{option_map}
 use Rattle.std.specs.Vec.Iter.{into_iter_items}
 use Rattle.std.proofs.lemmas.List.{length-map}
 use Rattle.std.proofs.lemmas.Option.{slice_get-map, slice_get_within, slice_get-get_or}
-use Rattle.proof_graph.specs.Steps.{step_with, IsProof}
+use Rattle.proof_file.specs.Steps.{step_with, IsProof}
 use Rattle.why_pair.specs.Relinked.{relinked_numbers, relinked_step, with_each}
 use Rattle.why_pair.proofs.LinkLemmas.{taken_front, none_of, at_front, with_more, still_proof, with_terms_each}
 use Rattle.why_pair.proofs.relinking.relink.Goals as goal

@@ -8,5 +8,5 @@ pub step_numbers-requires-clause-inside : goal.step_numbers-requires-clause-insi
 step_numbers-requires-clause-inside c =
     let H = c.args.ways.now in
     let W = way (links H) (length H) c.args.a c.args.b in
-    let is = c.deref.ensures.value ∙ c.in_ok-put.ensures ∙ ap (λ l. l ++ W) c.new-places.ensures.items in
+    let is = c.deref.ensures.value ∙ c.in_ok-put.ensures.ok ∙ ap (λ l. l ++ W) c.new-places.ensures.items in
     subst (All (λ p. p < length c.args.kept.now)) (sym is) (subst (λ n. All (λ p. p < n) W) (sym c.requires.kept.one_each) (way_inside H c.args.a c.args.b c.requires.joined))
