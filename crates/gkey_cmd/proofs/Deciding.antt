@@ -1,10 +1,9 @@
 -- How a run ends, from what was read.
-use Rattle.std.proofs.Common.{List, [], ◌∷◌, ◌++◌, ℕ, true, All, map, Option, Some, Result, Ok, Err, IfOk, IfSome, IsSomeAnd, MatchResult, Vec, Global, vec_items, ◌≡◌, ◌∙◌, inl, inr, refl, sym, subst}
+use Rattle.std.proofs.Common.{List, [], ◌∷◌, ◌++◌, ℕ, true, All, map, Some, Result, Ok, Err, IfSome, IsSomeAnd, MatchResult, Vec, Global, vec_items, ◌≡◌, ◌∙◌, inl, inr, refl, sym, subst}
 use Rattle.gk_base.specs.declared.limits.Limits.{Limits}
 use Rattle.gk_base.specs.declared.read_fault.ReadRefusal.{ReadRefusal}
 use Rattle.gk_base.specs.declared.stop.Stop.{Stop}
 use Rattle.gk_base.specs.declared.stop.Stop.TheVariants as stop
-use Rattle.gk_base.specs.declared.memory.NoMemory.{NoMemory as Wants}
 use Rattle.gk_base.specs.declared.term.Triple.{Triple}
 use Rattle.gk_io.specs.Cause.{Rose}
 use Rattle.gk_io.specs.Files.{bytes_of}
@@ -21,23 +20,21 @@ use Rattle.term_text.specs.ReadBack.{CanBeSpelled}
 use Rattle.proof_file.specs.Steps.{StepShape}
 use Rattle.proof_file.specs.CanonicalProof.{proof_text}
 use Rattle.proof_file.specs.ProofText.{ProofSays}
-use Rattle.proof_check.specs.Verdict.{verdict}
 use Rattle.graph_rows.specs.GraphFile.{StopsSoon, StopsAtGraph}
 use Rattle.graph_rows.proofs.CallerLemmas.{told, told_more, told_both}
-use Rattle.gkey_cmd.specs.Commands.{Wanted, Matching, Proving, Checking, Converting, Demonstrating, Merging, Explaining, Helping, TellingVersion, demo_graph_name, demo_keys_name, files_of}
-use Rattle.gkey_cmd.specs.Texts.{help_text, version_text}
+use Rattle.gkey_cmd.specs.Commands.{Wanted, Matching, Proving, Checking, Converting, Demonstrating, Merging, Explaining, demo_graph_name, demo_keys_name, files_of}
 use Rattle.gkey_cmd.specs.Reading.{NamedFiles, GraphSays, KeyFileSays, ProofFileSays, left_by, IsAcceptedLeaving, IsRefusedSo, AllAccepted, FirstRefused}
 use Rattle.gkey_cmd.specs.HowFar.{IsReadWithin, FileLeft, KeysLeft, ProofLeft, ChaseStops, LeavesFiles, StopsReading}
 use Rattle.gkey_cmd.specs.Failing.{HasFailed}
 use Rattle.gkey_cmd.specs.Matched.{IsReport, HasTooManyPairs}
-use Rattle.gkey_cmd.specs.Checked.{verdict_answer, verdict_text}
+use Rattle.gkey_cmd.specs.Checked.{IsChecked}
 use Rattle.gkey_cmd.specs.Entities.{NamesOne}
 use Rattle.gkey_cmd.specs.Written.{ChaseHasMorePairs, IsAnswered, IsRefused}
 use Rattle.gkey_cmd.specs.ChaseEnds.{ChaseEnds, IsProofOfFiles, IsMergedOfFiles, IsWhyOfFiles, NameTwo, WhyEnds}
 use Rattle.gkey_cmd.proofs.Spelled.{names_good, names_spelled}
 use Rattle.gkey_cmd.proofs.OfFiles.{triples_of_file}
 use Rattle.gkey_cmd.specs.Demo.{demo_files, IsDemoText}
-use Rattle.gkey_cmd.specs.Endings.{graph_ending, Stopped, DemoStops, Caused, IsBeforeChase, StopsAt, EndsAt, AllAcceptedLeaving, ReadSoFar}
+use Rattle.gkey_cmd.specs.Endings.{graph_ending, Stopped, DemoStops, IsBeforeChase, StopsAt, EndsAt, AllAcceptedLeaving, ReadSoFar}
 use Rattle.gkey_cmd.specs.declared.file.File.{File}
 use Rattle.gkey_cmd.specs.declared.file.File.TheVariants.{Graph, More, Keys, Proof}
 use Rattle.gkey_cmd.specs.declared.ending.Answer.{Answer}
@@ -395,9 +392,9 @@ module _ {K : Type 0} (shelf : Shelf.Ghosts K) (old new : K) (limits : Limits) (
 
   -- ---- a check
   module _ (proof : List ℕ) (steps : List StepShape) (in_proof : IfSome (shelf.held old) (λ files. ProofFileSays limits (bytes_of files proof) (Ok steps))) (left : ProofLeft shelf old new limits proof) where
-    pub check_ended : (answer : Answer) (text : Vec ℕ Global) → answer ≡ verdict_answer (verdict triples key_list steps) → vec_items text ≡ verdict_text (verdict triples key_list steps) →
+    pub check_ended : (answer : Answer) (text : Vec ℕ Global) → IsChecked triples key_list steps answer (vec_items text) →
         Stopped shelf old new (Checking graph keys proof) limits (Done answer text)
-    check_ended answer text a t = (
+    check_ended answer text checked = (
       count,
       told_both (shelf.held old) _ _ (λ files. IsAnswered (Some (Checking graph keys proof)) files limits answer (vec_items text))
           (λ files g p. (
@@ -406,7 +403,7 @@ module _ {K : Type 0} (shelf : Shelf.Ghosts K) (old new : K) (limits : Limits) (
               tt,
               (λ h. h),
             ),
-            (triples, key_list, steps, g, p.0, p.1, a, t),
+            (triples, key_list, steps, g, p.0, p.1, checked),
           ))
           in_graph (told_both (shelf.held old) _ _ (λ files. KeyFileSays limits (bytes_of files keys) (Ok key_list) × ProofFileSays limits (bytes_of files proof) (Ok steps)) (λ files k p. (k, p)) in_keys in_proof),
       left,
@@ -480,36 +477,3 @@ ends_alike shelf old new limits graph keys command e stops (Refused refusal) b h
 )
 ends_alike shelf old new limits graph keys command e stops NoMemory b h = h
 ends_alike shelf old new limits graph keys command e stops (Done answer text) b h = absurd b
-
--- a demo causes the run's ending
-pub demo_caused : {K : Type 0} (shelf : Shelf.Ghosts K) (at : K) (limits : Limits) (command : Option Wanted) (n : ℕ) → command ≡ Some (Demonstrating n) →
-    (ending : Ending) → DemoStops n limits ending → Caused shelf at at command limits ending
-demo_caused shelf at limits command n is NoCommand h = absurd h
-demo_caused shelf at limits command n is (Failed file) h = absurd h
-demo_caused shelf at limits command n is (Refused refusal) h = (Demonstrating n, is, (refl, h, refl))
-demo_caused shelf at limits command n is NoMemory h = (Demonstrating n, is, refl)
-demo_caused shelf at limits command n is (Done answer text) h = (Demonstrating n, is, (refl, h, refl))
-
--- help and version go by no file: each causes the run's ending with its text, or with want of memory for it
-pub help_caused : {K : Type 0} (shelf : Shelf.Ghosts K) (at : K) (limits : Limits) (command : Option Wanted) → command ≡ Some Helping →
-    (text : Result (Vec ℕ Global) Wants) → IfOk text (λ t. vec_items t ≡ help_text) →
-    (ending : Ending) → MatchResult text (λ t. ending ≡ Done Given t) (λ _. ending ≡ NoMemory) → Caused shelf at at command limits ending
-help_caused shelf at limits command is (Ok t) written ending e =
-    subst (λ x. Caused shelf at at command limits x) (sym e) (Helping, is, (refl, ((tt, tt, (λ h. h)), written), refl))
-help_caused shelf at limits command is (Err _) written ending e =
-    subst (λ x. Caused shelf at at command limits x) (sym e) (Helping, is, refl)
-
-pub version_caused : {K : Type 0} (shelf : Shelf.Ghosts K) (at : K) (limits : Limits) (command : Option Wanted) → command ≡ Some TellingVersion →
-    (text : Result (Vec ℕ Global) Wants) → IfOk text (λ t. vec_items t ≡ version_text) →
-    (ending : Ending) → MatchResult text (λ t. ending ≡ Done Given t) (λ _. ending ≡ NoMemory) → Caused shelf at at command limits ending
-version_caused shelf at limits command is (Ok t) written ending e =
-    subst (λ x. Caused shelf at at command limits x) (sym e) (TellingVersion, is, (refl, ((tt, tt, (λ h. h)), written), refl))
-version_caused shelf at limits command is (Err _) written ending e =
-    subst (λ x. Caused shelf at at command limits x) (sym e) (TellingVersion, is, refl)
-
--- ---- the ending of a command that has one answer and its text, or has none
-
-pub given_ends : (Stops : Ending → Type 0) (text : Result (Vec ℕ Global) Ending) (ending : Ending) →
-    MatchResult text (λ t. ending ≡ Done Given t) (λ e. ending ≡ e) → MatchResult text (λ t. Stops (Done Given t)) Stops → Stops ending
-given_ends Stops (Ok t) ending is h = subst Stops (sym is) h
-given_ends Stops (Err e) ending is h = subst Stops (sym is) h

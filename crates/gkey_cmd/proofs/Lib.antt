@@ -1,6 +1,7 @@
 mod Numbers
 mod Fronts
 mod Deciding
+mod Caused
 mod RefusedOnce
 mod Running
 mod Growing
@@ -14,3 +15,9 @@ mod WholeWords
 mod Finding
 mod Reasons
 mod LastCalls
+mod OneList
+mod OneReport
+mod OneMerged
+mod OneDemo
+mod OneAnswer
+mod OneRun

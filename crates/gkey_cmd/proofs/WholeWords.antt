@@ -33,6 +33,16 @@ term_stops piece t (literal {form = form} {suffix = suffix} x s whole) = suffix_
 whole_reads : (word : List ℕ) (t : Term) → Spells word t → Reads word 0 t (length word)
 whole_reads word t x = record { piece = word; rest = []; spells = x; stops = term_stops word t x; here = sym (append-nil word); ends = omega arith }
 
+-- a word spells one term
+pub one_term : (word : List ℕ) (term other : Term) → Spells word term → Spells word other → term ≡ other
+one_term word term other x y =
+    let answer : Result (Term × ℕ) LexFault = Ok (term, length word) in
+    let same : answer ≡ Ok (other, length word) = says_once word 0 answer (Ok (other, length word)) (whole_reads word term x) (whole_reads word other y) in
+    let one : Term × ℕ = (term, length word) in
+    let two : Term × ℕ = (other, length word) in
+    let pair : one ≡ two = cc in
+    ap (λ (p : Term × ℕ). p.0) pair
+
 -- what is read is the one term that the word can spell, and it ends with the word
 pub one_spelled : (word : List ℕ) (term other : Term) (end : ℕ) → Says word 0 (Ok (term, end)) → Spells word other → (other ≡ term) × (end ≡ length word)
 one_spelled word term other end reads x =

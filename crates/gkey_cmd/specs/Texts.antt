@@ -13,7 +13,7 @@ use Rattle.gkey_cmd.specs.declared.ending.Refusal.TheVariants.{InGraph, InMore, 
 
 -- the usage text
 abbrev pub usage : List ℕ
-usage = codes "usage:\n  gkey match [--workers N] GRAPH KEYS\n  gkey prove [--workers N] GRAPH KEYS\n  gkey check GRAPH KEYS PROOF\n  gkey convert PROOF\n  gkey demo N\n  gkey grow [--workers N] GRAPH MORE KEYS\n  gkey merge [--workers N] GRAPH KEYS\n  gkey why [--workers N] GRAPH KEYS A B\n  gkey --help\n  gkey --version\n"
+usage = codes "usage:\n  gkey match [--workers N] GRAPH KEYS\n  gkey prove [--workers N] GRAPH KEYS\n  gkey check GRAPH KEYS PROOF\n  gkey demo N\n  gkey convert PROOF\n  gkey grow [--workers N] GRAPH MORE KEYS\n  gkey merge [--workers N] GRAPH KEYS\n  gkey why [--workers N] GRAPH KEYS A B\n  gkey --help\n  gkey --version\n"
 
 -- the text of help, in lines of at most 80 characters
 unfoldable pub help_text : List ℕ
@@ -27,10 +27,10 @@ help_text =
     ++ codes "      prints a proof of all that is the same\n"
     ++ codes "  gkey check GRAPH KEYS PROOF\n"
     ++ codes "      says that every step of a proof holds, or which does not and why\n"
-    ++ codes "  gkey convert PROOF\n"
-    ++ codes "      prints a proof of either version in version 2\n"
     ++ codes "  gkey demo N\n"
     ++ codes "      matches a graph of N pairs of entities that it makes, and prints counts\n"
+    ++ codes "  gkey convert PROOF\n"
+    ++ codes "      prints a proof of either version in version 2\n"
     ++ codes "  gkey grow [--workers N] GRAPH MORE KEYS\n"
     ++ codes "      prints the classes of GRAPH and MORE together\n"
     ++ codes "  gkey merge [--workers N] GRAPH KEYS\n"

@@ -10,10 +10,9 @@ use Rattle.gkey_cmd.specs.Texts.{usage, help_text, version_text, refused_text}
 use Rattle.gkey_cmd.specs.Reading.{NamedFiles, GraphSays, KeyFileSays, ProofFileSays, left_by, AllAccepted, FirstRefused}
 use Rattle.proof_file.specs.Steps.{StepShape}
 use Rattle.proof_file.specs.CanonicalProof.{proof_text}
-use Rattle.proof_check.specs.Verdict.{verdict}
 use Rattle.gkey_cmd.specs.Matched.{IsReport, HasTooManyPairs}
 use Rattle.gkey_cmd.specs.Proved.{IsProofText}
-use Rattle.gkey_cmd.specs.Checked.{verdict_answer, verdict_text}
+use Rattle.gkey_cmd.specs.Checked.{IsChecked}
 use Rattle.gkey_cmd.specs.Demo.{IsDemoText}
 use Rattle.gkey_cmd.specs.Merged.{IsMergedOutput}
 use Rattle.gkey_cmd.specs.Entities.{NamesOne}
@@ -114,7 +113,7 @@ Answers limits files (Proving graph keys) NotTheSame output = ⊥
 Answers limits files (Checking graph keys proof) answer output =
     (triples : List Triple) × (key_list : List KeyShape) × (steps : List StepShape) × GraphSays limits (bytes_of files graph) (Ok triples)
     × KeyFileSays limits (bytes_of files keys) (Ok key_list) × ProofFileSays limits (bytes_of files proof) (Ok steps)
-    × (answer ≡ verdict_answer (verdict triples key_list steps)) × (output ≡ verdict_text (verdict triples key_list steps))
+    × IsChecked triples key_list steps answer output
 Answers limits files (Converting proof) Given output =
     (steps : List StepShape) × ProofFileSays limits (bytes_of files proof) (Ok steps) × (output ≡ proof_text steps)
 Answers limits files (Converting proof) NotAccepted output = ⊥
@@ -177,6 +176,20 @@ AreAccepted (Some command) files limits = AllAccepted limits files (files_of com
 abbrev pub IsAnswered : Option Wanted → NamedFiles → Limits → Answer → List ℕ → Type 0
 IsAnswered None files limits answer output = ⊥
 IsAnswered (Some command) files limits answer output = AreAccepted (Some command) files limits × Answers limits files command answer output
+
+-- One output goes with the files and the limits: so it is with every command but `prove` and `why`, since of proofs there may be
+-- several.
+abbrev pub HasOneOutput : Wanted → Type 0
+HasOneOutput (Matching graph keys) = ⊤
+HasOneOutput (Proving graph keys) = ⊥
+HasOneOutput (Checking graph keys proof) = ⊤
+HasOneOutput (Converting proof) = ⊤
+HasOneOutput (Demonstrating n) = ⊤
+HasOneOutput (Merging graph keys) = ⊤
+HasOneOutput (Explaining graph keys first second) = ⊥
+HasOneOutput (Growing graph more keys) = ⊤
+HasOneOutput Helping = ⊤
+HasOneOutput TellingVersion = ⊤
 
 -- What a run writes, one case for each way in which it may end: the words ask for no command, the command is refused, or
 -- it is answered.

@@ -3,13 +3,12 @@
 ghost use Rattle.std.specs.Prelude.{◌≡◌, ◌<◌, ◌^◌, length, List, IfOk};
 ghost use Rattle.gk_base.specs.declared.term.Triple.{Triple as AnyTriple};
 ghost use Rattle.proof_check.specs.Ready.{IsReady};
-ghost use Rattle.proof_check.specs.Verdict.{verdict};
-ghost use Rattle.gkey_cmd.specs.Checked.{verdict_answer, verdict_text};
+ghost use Rattle.gkey_cmd.specs.Checked.{verdict_answer, verdict_text, IsChecked};
 
 use crate::ending::Answer;
 use gk_base::NoMemory;
 use key_lang::KeyFile;
-use proof_check::{Checker, Reason, Verdict};
+use proof_check::{Checker, Reason, Verdict, law_proof};
 use proof_file::Proof;
 use std::alloc::Global;
 
@@ -64,9 +63,10 @@ pub fn check_files(
     proof: &Proof,
 ) -> Result<(Answer, Vec<u8>), NoMemory>
     requires { length proof.now < 2 ^ 32 }
-    ensures answer { IfOk result (λ r. (triples : List AnyTriple) → IsReady checker triples keys.now → r.0 ≡ verdict_answer (verdict triples keys.now proof.now)) }
-    ensures text { IfOk result (λ r. (triples : List AnyTriple) → IsReady checker triples keys.now → r.1.items ≡ verdict_text (verdict triples keys.now proof.now)) }
+    ensures { IfOk result (λ r. (triples : List AnyTriple) → IsReady checker triples keys.now → IsChecked triples keys.now proof.now r.0 r.1.items) }
 {
+    law_proof();
+    let _keys = keys.keys();
     let verdict = checker.check(alloc, keys, proof)?;
     Ok((verdict_answer(verdict), verdict_text(alloc, verdict)?))
 }

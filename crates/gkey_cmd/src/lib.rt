@@ -11,6 +11,7 @@
 //! - `ending`: how a run ends, and what it leaves
 //! - `texts`: each status with its meaning and the text for the error stream, and the texts of help and version
 //! - `top`: `run`
+//! - `laws`: what holds of every answer
 #![tactic(auto)]
 
 mod checked;
@@ -21,6 +22,7 @@ mod entities;
 mod explained;
 mod file;
 mod grown;
+mod laws;
 mod matched;
 mod merged;
 mod order;
@@ -30,6 +32,7 @@ mod texts;
 mod top;
 mod words;
 
+pub use laws::law_one_output;
 pub use texts::{NO_MEMORY, NO_WORDS};
 pub use top::{run, run_gated};
 pub use words::{Command, read_words};

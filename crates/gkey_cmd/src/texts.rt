@@ -43,7 +43,7 @@ pub(crate) const NO_COMMAND: u8 = 64;
 
 /// The text of `NO_COMMAND`.
 pub(crate) const USAGE: &[u8] =
-    b"usage:\n  gkey match [--workers N] GRAPH KEYS\n  gkey prove [--workers N] GRAPH KEYS\n  gkey check GRAPH KEYS PROOF\n  gkey convert PROOF\n  gkey demo N\n  gkey grow [--workers N] GRAPH MORE KEYS\n  gkey merge [--workers N] GRAPH KEYS\n  gkey why [--workers N] GRAPH KEYS A B\n  gkey --help\n  gkey --version\n";
+    b"usage:\n  gkey match [--workers N] GRAPH KEYS\n  gkey prove [--workers N] GRAPH KEYS\n  gkey check GRAPH KEYS PROOF\n  gkey demo N\n  gkey convert PROOF\n  gkey grow [--workers N] GRAPH MORE KEYS\n  gkey merge [--workers N] GRAPH KEYS\n  gkey why [--workers N] GRAPH KEYS A B\n  gkey --help\n  gkey --version\n";
 
 /// The text of `--version`. The version stands here alone in the code.
 const VERSION: &[u8] = b"gkey 0.1.0\n";
@@ -59,10 +59,10 @@ usage:
       prints a proof of all that is the same
   gkey check GRAPH KEYS PROOF
       says that every step of a proof holds, or which does not and why
-  gkey convert PROOF
-      prints a proof of either version in version 2
   gkey demo N
       matches a graph of N pairs of entities that it makes, and prints counts
+  gkey convert PROOF
+      prints a proof of either version in version 2
   gkey grow [--workers N] GRAPH MORE KEYS
       prints the classes of GRAPH and MORE together
   gkey merge [--workers N] GRAPH KEYS

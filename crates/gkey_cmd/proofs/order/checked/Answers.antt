@@ -77,4 +77,4 @@ returns g c =
     let two = read_next g.S.Shelf a.shelf.now c.read_rows.new.shelf c.read_keys.new.shelf a.limits.now left ((Graph, a.graph.now) ∷ []) Keys a.keys.now one left keys_accepted k.ensures.count k.ensures.held in
     let proof_left = file_left_first g.S.Shelf a.shelf.now c.read_keys.new.shelf c.checker_and_proof.new.shelf a.limits.now left ((Graph, a.graph.now) ∷ (Keys, a.keys.now) ∷ []) Proof a.proof.now two a.limits.now.bytes d.left in
     check_ended g.S.Shelf a.shelf.now c.checker_and_proof.new.shelf a.limits.now a.graph.now a.keys.now t k.key_file (d.count ∙ k.ensures.count ∙ r.gives.0)
-    r.gives.1.1.says in_keys a.proof.now told in_proof proof_left c.in_ok-answer.answer.0 c.in_ok-answer.answer.1 (c.in_ok-answer.ensures.answer t ready) (c.in_ok-answer.ensures.text t ready)
+    r.gives.1.1.says in_keys a.proof.now told in_proof proof_left c.in_ok-answer.answer.0 c.in_ok-answer.answer.1 (c.in_ok-answer.ensures t ready)

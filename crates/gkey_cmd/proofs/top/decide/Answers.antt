@@ -1,7 +1,7 @@
 -- A demo ends by its own texts, help and version by none, and these leave the shelf as it is.
 use Rattle.gkey_cmd.specs.Commands.{wanted}
 use Rattle.gkey_cmd.specs.Endings.{DemoStops}
-use Rattle.gkey_cmd.proofs.Deciding.{given_ends, demo_caused, help_caused, version_caused}
+use Rattle.gkey_cmd.proofs.Caused.{given_ends, demo_caused, help_caused, version_caused}
 use Rattle.gkey_cmd.proofs.top.decide.Goals as goal
 
 pub returns-in-Some-Demo-clause-caused : goal.returns-in-Some-Demo-clause-caused
