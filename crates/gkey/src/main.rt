@@ -34,7 +34,16 @@ fn main(rt: HostRuntime) -> ExitCode {
                     let _ = scope.spawn(|| line.tell(&rt));
                 }
                 let limits = &Limits::STANDARD;
-                let status = run_gated(&rt, rt.alloc(), &words, &mut shelf, &mut out, &mut err, limits, &gate);
+                let status = run_gated(
+                    &rt,
+                    rt.alloc(),
+                    &words,
+                    &mut shelf,
+                    &mut out,
+                    &mut err,
+                    limits,
+                    &gate,
+                );
                 line.end(&rt);
                 status
             });

@@ -1,6 +1,5 @@
 -- Sorted rows get leaders one after another.
 use Rattle.std.proofs.Common.{List, [], ◌∷◌, ℕ, zero, suc, Bool, false, Ordering, cond, ltb, eqb, length, get_or, set, ◌≡◌, ◌≢◌, ◌<◌, ◌≤◌, ◌+◌, ◌-◌, ◌⊎◌, inl, inr, refl, sym, ◌∙◌, ap, subst, arith}
-
 use Rattle.std.specs.Ordering.{is_lt, nat_cmp, ordering_then}
 use Rattle.std.specs.declared.cmp.Ordering.TheVariants.{Less, Equal, Greater}
 use Rattle.std.proofs.lemmas.Bool.{cases_lt, cases_eq, cases_order, false≢true, cond-true, cond-false, lt-ltb, le-ltb, eq-eqb}
@@ -50,10 +49,9 @@ leading_none keyed leaders some = record {
 }
 
 module _ (keyed : List Keyed) (leaders : List ℕ) (k : ℕ)
-  (sorted : (i : ℕ) → i + 1 < length keyed → IsNotAbove (keyed_at keyed i) (keyed_at keyed (i + 1)))
-  (once : (i l : ℕ) → i < length keyed → l < length keyed → (keyed_at keyed i).2 ≡ (keyed_at keyed l).2 → SameKey (keyed_at keyed i) (keyed_at keyed l))
-  (in_k : k < length keyed) (in_row : (keyed_at keyed k).2 < length leaders) where
-
+    (sorted : (i : ℕ) → i + 1 < length keyed → IsNotAbove (keyed_at keyed i) (keyed_at keyed (i + 1)))
+    (once : (i l : ℕ) → i < length keyed → l < length keyed → (keyed_at keyed i).2 ≡ (keyed_at keyed l).2 → SameKey (keyed_at keyed i) (keyed_at keyed l))
+    (in_k : k < length keyed) (in_row : (keyed_at keyed k).2 < length leaders) where
   next : Keyed
   next = keyed_at keyed k
 

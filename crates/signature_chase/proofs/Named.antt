@@ -29,9 +29,10 @@ pub step_named : (G : NumberedGraph) (K : List Shape) → IsGraph G → ((key : 
 step_named G K graph facts H e step =
     let Q = step.pattern in
     let known = facts e.key Q step.key in
-    let w = step.witness in
-    (subst (λ n. n < length G.literal) w.at_a (first_named G graph Q known e.left w.left),
-    subst (λ n. n < length G.literal) w.at_b (first_named G graph Q known e.right w.right))
+    let w = step.witness in (
+      subst (λ n. n < length G.literal) w.at_a (first_named G graph Q known e.left w.left),
+      subst (λ n. n < length G.literal) w.at_b (first_named G graph Q known e.right w.right),
+    )
 
 -- ---- images
 

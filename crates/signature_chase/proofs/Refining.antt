@@ -26,8 +26,7 @@ leaders_none labels group =
 
 -- the keyed rows, sorted
 module _ (labels : List ℕ) (group : GroupShape) (place : ℕ) (leaders : List ℕ) (keyed sorted : List Keyed)
-  (are : AreKeyed labels group place leaders keyed) (moved : IsPermutation keyed sorted) where
-
+    (are : AreKeyed labels group place leaders keyed) (moved : IsPermutation keyed sorted) where
   -- where a row is now
   pub place_of : (i : ℕ) → i < length group.rows → (k : ℕ) × (k < length sorted) × (keyed_at sorted k ≡ (slice_index leaders i, slice_index labels (slice_index (drop 1 (row_in group i)) place), i))
   place_of i h =
@@ -47,16 +46,16 @@ module _ (labels : List ℕ) (group : GroupShape) (place : ℕ) (leaders : List 
   rows_once k l hk hl e =
       let i = row_of k hk in
       let j = row_of l hl in
-      let same : i.0 ≡ j.0 = sym (ap (λ (x : Keyed). x.2) i.2) ∙ e ∙ ap (λ (x : Keyed). x.2) j.2 in
-      (ap (λ (x : Keyed). x.0) i.2 ∙ ap (slice_index leaders) same ∙ sym (ap (λ (x : Keyed). x.0) j.2),
-      ap (λ (x : Keyed). x.1) i.2 ∙ ap (λ m. slice_index labels (slice_index (drop 1 (row_in group m)) place)) same ∙ sym (ap (λ (x : Keyed). x.1) j.2))
+      let same : i.0 ≡ j.0 = sym (ap (λ (x : Keyed). x.2) i.2) ∙ e ∙ ap (λ (x : Keyed). x.2) j.2 in (
+        ap (λ (x : Keyed). x.0) i.2 ∙ ap (slice_index leaders) same ∙ sym (ap (λ (x : Keyed). x.0) j.2),
+        ap (λ (x : Keyed). x.1) i.2 ∙ ap (λ m. slice_index labels (slice_index (drop 1 (row_in group m)) place)) same ∙ sym (ap (λ (x : Keyed). x.1) j.2),
+      )
 
   pub rows_within : (k : ℕ) → k < length sorted → (keyed_at sorted k).2 < length group.rows
   rows_within k h = let i = row_of k h in rw (ap (λ (x : Keyed). x.2) i.2) i.1
 
   module _ (leaders' : List ℕ) (old : AreLeaders labels group place leaders) (led : AreLed sorted leaders' (length sorted)) (long : length leaders' ≡ length leaders)
-    (wide : (i : ℕ) → i < length group.rows → place < length (drop 1 (row_in group i))) where
-
+      (wide : (i : ℕ) → i < length group.rows → place < length (drop 1 (row_in group i))) where
     -- the new leader of a row, and what both are compared by
     leader : (i : ℕ) → i < length group.rows → (m : ℕ) × (m < length group.rows) × (slice_index leaders' i ≡ m)
         × (slice_index leaders m ≡ slice_index leaders i)
@@ -64,11 +63,13 @@ module _ (labels : List ℕ) (group : GroupShape) (place : ℕ) (leaders : List 
     leader i h =
         let k = place_of i h in
         let l = led.led k.0 k.1 in
-        let m = row_of l.0 l.1 in
-        (m.0, m.1,
-        ap (slice_index leaders') (sym (ap (λ (x : Keyed). x.2) k.2)) ∙ l.2 ∙ ap (λ (x : Keyed). x.2) m.2,
-        sym (ap (λ (x : Keyed). x.0) m.2) ∙ l.3.0 ∙ ap (λ (x : Keyed). x.0) k.2,
-        sym (ap (λ (x : Keyed). x.1) m.2) ∙ l.3.1 ∙ ap (λ (x : Keyed). x.1) k.2)
+        let m = row_of l.0 l.1 in (
+          m.0,
+          m.1,
+          ap (slice_index leaders') (sym (ap (λ (x : Keyed). x.2) k.2)) ∙ l.2 ∙ ap (λ (x : Keyed). x.2) m.2,
+          sym (ap (λ (x : Keyed). x.0) m.2) ∙ l.3.0 ∙ ap (λ (x : Keyed). x.0) k.2,
+          sym (ap (λ (x : Keyed). x.1) m.2) ∙ l.3.1 ∙ ap (λ (x : Keyed). x.1) k.2,
+        )
 
     -- rows that are compared by the same have one
     together : (i j : ℕ) → i < length group.rows → j < length group.rows → slice_index leaders i ≡ slice_index leaders j →

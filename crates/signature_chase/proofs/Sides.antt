@@ -17,13 +17,15 @@ key_within G K group row key e h = let l = slice_get_within K group.key h.0 h.2 
 pub some_parts : (G : NumberedGraph) (K : List Shape) (group : GroupShape) (row : List ℕ) (key : ℕ) (d : Shape) → key ≡ group.key → ArePartsOfSome G K (parts_in group row) →
     (v : List ℕ) × HasParts G (get_or K key d) (slice_index row 0) group.values (drop 1 row) v
 some_parts G K group row key d e h =
-    let at : get_or K key d ≡ h.0 = ap (λ k. get_or K k d) e ∙ get_or_from_slice_get K group.key h.0 d h.2 in
-    (h.1, subst (λ (Q : Shape). HasParts G Q (slice_index row 0) group.values (drop 1 row) h.1) (sym at) (record {
-      valuation = h.3;
-      name = sym (ap (λ (p : SignatureParts). p.name) h.4);
-      values = sym (ap (λ (p : SignatureParts). p.values) h.4);
-      images = sym (ap (λ (p : SignatureParts). p.images) h.4);
-    }))
+    let at : get_or K key d ≡ h.0 = ap (λ k. get_or K k d) e ∙ get_or_from_slice_get K group.key h.0 d h.2 in (
+      h.1,
+      subst (λ (Q : Shape). HasParts G Q (slice_index row 0) group.values (drop 1 row) h.1) (sym at) (record {
+        valuation = h.3;
+        name = sym (ap (λ (p : SignatureParts). p.name) h.4);
+        values = sym (ap (λ (p : SignatureParts). p.values) h.4);
+        images = sym (ap (λ (p : SignatureParts). p.images) h.4);
+      }),
+    )
 
 -- the plan at a key's place is that of the key
 pub plan_at : (K : List Shape) (plans : List Route) (key : ℕ) (d : Shape) (P : Route) → ArePlans K plans → key < length K → P ≡ get_or plans key P → IsPlanOf (get_or K key d) P

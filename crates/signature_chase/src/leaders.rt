@@ -14,7 +14,11 @@ use valuation_groups::Group;
 fn head_for(head: (u32, u32, u32), next: (u32, u32, u32)) -> (u32, u32, u32)
     ensures { (SameKey head next × (result ≡ head)) ⊎ (¬ (SameKey head next) × (result ≡ next)) }
 {
-    if head.0 == next.0 && head.1 == next.1 { head } else { next }
+    if head.0 == next.0 && head.1 == next.1 {
+        head
+    } else {
+        next
+    }
 }
 
 /// Writes for each row the first of those that are compared by the same.

@@ -47,14 +47,27 @@ impl<'a> Model for Setting<'a> {
 }
 
 /// A valuation that has the parts of a group's row.
-fn valuation_of(graph: &Graph, pattern: &Pattern, plan: &Plan, group: &Group<'_>, row: usize) -> Places
+fn valuation_of(
+    graph: &Graph,
+    pattern: &Pattern,
+    plan: &Plan,
+    group: &Group<'_>,
+    row: usize,
+) -> Places
     requires plan { IsPlanOf pattern.now plan.now }
     requires row { row < length group.now.rows }
     requires some { (v : List ℕ) × HasParts graph.now pattern.now (slice_index (row_in group.now row) 0) group.now.values (drop 1 (row_in group.now row)) v }
     ensures { HasParts graph.now pattern.now (slice_index (row_in group.now row) 0) group.now.values (drop 1 (row_in group.now row)) result }
 {
     let name = group.name(row);
-    match find_valuation(graph, pattern, plan, name, group.values(), group.images_of(row)) {
+    match find_valuation(
+        graph,
+        pattern,
+        plan,
+        name,
+        group.values(),
+        group.images_of(row),
+    ) {
         Some(places) => places,
         None => unreachable!(),
     }

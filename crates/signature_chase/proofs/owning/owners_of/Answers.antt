@@ -36,8 +36,11 @@ loop-place-preserved c =
       every = λ g i m lt h k. elim (cases_lt g p) [
         | inl before ↦ e.kept m g (v.every g i m before h k)
         | inr ge ↦ (let same : p ≡ g = omega arith in
-            subst (λ q. Contains (list_at new m) q) same (e.every m (i, subst (λ q. i < length (group_at groups q).rows) (sym same) h.1,
-            subst (λ q. Contains (drop 1 (row_in (group_at groups q) i)) m) (sym same) k)))
+            subst (λ q. Contains (list_at new m) q) same (e.every m (
+              i,
+              subst (λ q. i < length (group_at groups q).rows) (sym same) h.1,
+              subst (λ q. Contains (drop 1 (row_in (group_at groups q) i)) m) (sym same) k,
+            )))
       ];
       only = λ m g h. elim (e.only m g h) [
         | inl k ↦ (let lt : g < p = v.only m g k in omega arith)
