@@ -1,0 +1,85 @@
+//! The chase of a graph, and of the graph with more rows from there on.
+
+ghost use Rattle.std.specs.Prelude.{◌≡◌, ◌<◌, ◌≤◌, ◌^◌, ◌++◌, List, IfErr, IfOk, OnOk, length};
+ghost use Rattle.chase_laws.specs.declared.entry.Entry.{Entry};
+ghost use Rattle.chase_laws.specs.SameRows.{HasRowsOf};
+ghost use Rattle.match_run.specs.Classes.{AreClasses, IsFinishedJournal};
+ghost use Rattle.pair_seed.specs.Pairs.{HasMoreCandidates};
+ghost use Rattle.pair_seed.specs.Stop.{IsRightStop};
+
+use crate::way::{Way, check_limit, way_for};
+use crate::whole::by_signatures;
+use chase_core::Matched;
+use chase_laws::Pattern;
+use chase_laws::laws::law_rows;
+use gk_base::NoMemory;
+use grow_match::{Grown, grow};
+use pair_seed::{SeedStop, bound_candidates};
+use signature_chase::Chased;
+use std::alloc::Global;
+use std::sync::Wait;
+use std::thread::Threads;
+use steal_pool::Gate;
+use typed_graph::Graph;
+
+/// What `chase_growth` promises, by signatures and whatever the number of candidate pairs. Only want of memory stops it.
+fn grow_signatures<R: Threads + Sync>(
+    rt: &R,
+    alloc: Global,
+    threads: u32,
+    first: Graph,
+    both: &Graph,
+    patterns: &[Pattern],
+) -> Result<Grown, NoMemory>
+    requires rows { HasRowsOf patterns.now first both.now }
+    ensures old { IfOk result (λ g. IsFinishedJournal first patterns.now g.old.items) }
+    ensures begins { IfOk result (λ g. (more : List Entry) × (g.now.journal.items ≡ g.old.items ++ more)) }
+    ensures journal { IfOk result (λ g. IsFinishedJournal both.now patterns.now g.now.journal.items) }
+    ensures classes { IfOk result (λ g. AreClasses both.now patterns.now g.now.labels.items) }
+{
+    // A fact for the proof: a derivation over some rows is one over more.
+    law_rows();
+    let Chased { journal: old, .. } = by_signatures(rt, alloc, threads, &first, patterns, &[])?;
+    drop(first);
+    let Chased { labels, journal } = by_signatures(rt, alloc, threads, both, patterns, &old)?;
+    let now = Matched { labels, journal };
+    Ok(Grown { old, now })
+}
+
+/// Chases a graph, and then a graph that has all rows of the first and is else equal, from what was identified over the first:
+/// as `grow_match::grow` promises it, in the way that is asked for, or where none is in the one that serves the whole graph.
+///
+/// `TooManyPairs` comes exactly where the whole graph has more candidate pairs than `limit`, and `NoMemory` where memory ran
+/// out.
+pub fn chase_growth<R: Threads + Wait + Sync, G: Gate>(
+    rt: &R,
+    alloc: Global,
+    workers: u32,
+    first: Graph,
+    both: Graph,
+    patterns: Vec<Pattern>,
+    limit: u64,
+    way: Option<Way>,
+    gate: &G,
+) -> Result<Grown, SeedStop>
+    requires rows { HasRowsOf patterns.items first both }
+    requires limit { limit < 2 ^ 32 }
+    requires few { length patterns.items < 2 ^ 32 }
+    requires workers { (0 < workers) × (workers ≤ 64) }
+    ensures old { IfOk result (λ g. IsFinishedJournal first patterns.items g.old.items) }
+    ensures begins { IfOk result (λ g. (more : List Entry) × (g.now.journal.items ≡ g.old.items ++ more)) }
+    ensures journal { IfOk result (λ g. IsFinishedJournal both patterns.items g.now.journal.items) }
+    ensures classes { IfOk result (λ g. AreClasses both patterns.items g.now.labels.items) }
+    ensures no_more { OnOk result (¬ (HasMoreCandidates both patterns.items limit)) }
+    ensures stop { IfErr result (IsRightStop both patterns.items limit) }
+{
+    let most = bound_candidates(alloc, &both, &patterns, limit)?;
+    match way.unwrap_or(way_for(both.names(), most)) {
+        Way::Pairs => grow(rt, alloc, first, both, patterns, limit, workers, gate),
+        Way::Signatures => {
+            check_limit(alloc, &both, &patterns, most, limit)?;
+            let grown = grow_signatures(rt, alloc, workers, first, &both, &patterns)?;
+            Ok(grown)
+        }
+    }
+}

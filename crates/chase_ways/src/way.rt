@@ -1,0 +1,53 @@
+//! The two ways, and which one serves a graph.
+
+ghost use Rattle.std.specs.Prelude.{◌<◌, ◌^◌, IfErr, IfOk, IfSome, IsNone, ◌⊎◌};
+ghost use Rattle.pair_seed.specs.Pairs.{HasMoreCandidates};
+ghost use Rattle.pair_seed.specs.Stop.{IsRightStop};
+
+use chase_laws::Pattern;
+use pair_seed::{SeedStop, count_candidates};
+use std::alloc::Global;
+use typed_graph::Graph;
+
+/// In which way a graph is chased. What comes of it is the same.
+#[derive(Clone, Copy, Debug)]
+pub enum Way {
+    /// Candidate pairs are found, filtered and searched by workers.
+    Pairs,
+    /// Valuations are listed once, and those of one signature identify their names.
+    Signatures,
+}
+
+/// Where there may be more candidate pairs a name, the chase goes by signatures.
+const PAIRS_A_NAME: u64 = 4;
+
+/// The way that serves a graph with so many names, in which there are at most so many candidate pairs, or too many to say.
+pub(crate) fn way_for(names: u32, most: Option<u64>) -> Way {
+    match most {
+        Some(pairs) if pairs <= PAIRS_A_NAME * names as u64 => Way::Pairs,
+        _ => Way::Signatures,
+    }
+}
+
+/// Stops where there are more candidate pairs than `limit`. They are counted only where it is not known that there are at most
+/// so many.
+pub(crate) fn check_limit(
+    alloc: Global,
+    graph: &Graph,
+    patterns: &[Pattern],
+    most: Option<u64>,
+    limit: u64,
+) -> Result<(), SeedStop>
+    requires limit { limit < 2 ^ 32 }
+    requires most { IfSome most (λ n. ¬ (HasMoreCandidates graph.now patterns.now limit)) }
+    ensures no_more { IfOk result (λ _. ¬ (HasMoreCandidates graph.now patterns.now limit)) }
+    ensures stop { IfErr result (IsRightStop graph.now patterns.now limit) }
+{
+    match most {
+        Some(_) => Ok(()),
+        None => {
+            count_candidates(alloc, graph, patterns, limit)?;
+            Ok(())
+        }
+    }
+}
