@@ -19,16 +19,16 @@ fn plan_of(rt: &impl Abort, alloc: Global, table: &PatternTable<'_>) -> Plan {
 }
 
 #[test]
-fn slots_at_one_distance_come_by_number(rt: HostRuntime) {
+fn a_value_comes_before_an_entity(rt: HostRuntime) {
     let plan = plan_of(&rt, rt.alloc(), &tables().0);
     assert_eq!(rt; plan.radius(), 1);
-    assert_eq!(rt; plan.order(), [0u8, 1, 2].as_slice());
+    assert_eq!(rt; plan.order(), [0u8, 2, 1].as_slice());
 }
 
 #[test]
-fn slots_come_by_distance_and_then_by_number(rt: HostRuntime) {
+fn a_wildcard_comes_last(rt: HostRuntime) {
     let plan = plan_of(&rt, rt.alloc(), &tables().1);
     assert_eq!(rt; plan.radius(), 3);
-    assert_eq!(rt; plan.order(), [0u8, 3, 4, 2, 1].as_slice());
+    assert_eq!(rt; plan.order(), [0u8, 4, 3, 2, 1].as_slice());
     assert_eq!(rt; plan.len(), 5);
 }

@@ -1,18 +1,13 @@
 -- The edges that a place adds.
-use Rattle.std.proofs.Common.{List, [], ◌∷◌, ℕ, zero, suc, Bool, Any, Contains, map, filter, get_or, length, slice_index, slice_index_or, ◌≡◌, ◌≢◌, ◌<◌, ◌≤◌, ◌-◌, ◌⊎◌, true, eqb-true, eq-eqb, inl, inr, sym, ◌∙◌, ap, subst, arith, length-append}
-use Rattle.std.specs.List.{list_any}
-use Rattle.std.proofs.lemmas.Bool.{cases_lt, cases_eq, cases_order, or_cases, or_left, or_right, and_parts, and_from, ltb-true, lt-ltb, cond_both, true≢false}
+use Rattle.std.proofs.Common.{List, [], ◌∷◌, ℕ, zero, suc, Bool, Contains, map, filter, get_or, length, slice_index, slice_index_or, ◌≡◌, ◌≢◌, ◌<◌, ◌≤◌, ◌⊎◌, true, eqb-true, eq-eqb, inl, inr, sym, ◌∙◌, ap, subst, arith, length-append}
+use Rattle.std.proofs.lemmas.Bool.{cases_lt, or_cases, or_left, or_right, and_parts, and_from, ltb-true, lt-ltb, cond_both, true≢false}
 use Rattle.std.proofs.lemmas.List.{get_or_append_left, get_or-map, length-map}
-use Rattle.std.proofs.lemmas.List.Elements.{All-append, All-filter, All-weaker, filter_passes, All-contains_itself, Contains-get_or, Contains-append_left, Contains-append_right}
-use Rattle.std.proofs.lemmas.List.Folds.{Any-from_list_any}
-use Rattle.std.proofs.lemmas.Option.{slice_get_within}
+use Rattle.std.proofs.lemmas.List.Elements.{All-append, All-filter, All-weaker, filter_passes, All-contains_itself, Contains-append_left, Contains-append_right}
 use Rattle.chase_laws.specs.declared.pattern.Edge.{Edge}
-use Rattle.chase_laws.specs.declared.pattern.Slot.TheVariants.{Entity}
-use Rattle.chase_laws.specs.Shape.{Shape, marks, touches, reached, PatternFacts}
-use Rattle.key_plan.specs.Distance.{IsDistance, AreDistances, IsOrder}
+use Rattle.chase_laws.specs.Shape.{Shape}
+use Rattle.key_plan.specs.Order.{IsOrder}
 use Rattle.key_plan.specs.Making.{is_proper, is_loop, block_of}
 use Rattle.key_plan.specs.Route.{moved, AreInverse, IsProper, IsBlock}
-use Rattle.key_plan.proofs.Levels.{reached_slot, reached-zero, reached-next}
 
 proper_from : (s : ℕ) (e : Edge) → is_proper s e ≡ true → IsProper s e
 proper_from s e h = elim (or_cases _ _ h) [
@@ -47,74 +42,20 @@ contains_some xs x c = let h = c.1 in omega arith
 contains_map : (f : Edge → Edge) (xs : List Edge) (x : Edge) → Contains xs x → Contains (map f xs) (f x)
 contains_map f xs x c = (c.0, (let e = length-map xs f in let h = c.1 in omega arith), get_or-map f xs c.0 x (f x) c.1 ∙ ap f c.2)
 
-module _ (Q : Shape) (ds order place : List ℕ) (edges : List Edge) (facts : PatternFacts Q) (are : AreDistances Q ds) (is : IsOrder Q order) (inverse : AreInverse order place)
-    (same : edges ≡ map (moved place) Q.edges) where
-  -- what is nearer stands before
-  nearer_before : (t u : ℕ) → t < length Q.slots → u < length Q.slots → slice_index ds u < slice_index ds t → slice_index place u < slice_index place t
-  nearer_before t u lt lu h =
-      let n = is.one_each in
-      let i = slice_index place u in
-      let j = slice_index place t in
-      let in_i : i < length order = inverse.within u (omega arith) in
-      let in_j : j < length order = inverse.within t (omega arith) in
-      let at_u : slice_index order i ≡ u = inverse.slot_at u (omega arith) in
-      let at_t : slice_index order j ≡ t = inverse.slot_at t (omega arith) in
-      elim (cases_order i j) [
-        | inl e ↦ absurd (let k : u ≡ t = sym at_u ∙ ap (slice_index order) e ∙ at_t in let m = ap (slice_index ds) k in omega arith)
-        | inr (inl l) ↦ l
-        | inr (inr g) ↦ absurd (elim (is.ascending j i 0 g in_i (slice_index ds t) (slice_index ds u)
-            (subst (λ s. IsDistance Q s (slice_index ds t)) (sym at_t) (are.each t lt)) (subst (λ s. IsDistance Q s (slice_index ds u)) (sym at_u) (are.each u lu))) [
-              | inl l ↦ omega arith
-              | inr e ↦ (let k = e.0 in omega arith)
-            ])
-      ]
-
-  -- the slot at distance 0
-  at_zero : (t : ℕ) → t < length Q.slots → slice_index ds t ≡ 0 → t ≡ 0
-  at_zero t l e = eqb-true t 0 (sym (reached-zero Q t l) ∙ subst (λ d. reached Q d t ≡ true) e (are.each t l).within)
-
-  pub place_zero : slice_index place 0 ≡ 0
-  place_zero = elim (cases_eq (slice_index place 0) 0) [
-    | inl e ↦ e
-    | inr ne ↦
-        (let some = slice_get_within Q.slots 0 (Entity facts.first.0) facts.first.1 in
-        let n = is.one_each in
-        let u = slice_index order 0 in
-        let at : slice_index place u ≡ 0 = inverse.place_of 0 (omega arith) in
-        let in_u : u < length Q.slots = (is.slots u).0 (Contains-get_or order 0 0 (omega arith)) in
-        let zero_near : slice_index ds 0 ≡ 0 = (let k = (are.each 0 some).least 0 (reached-zero Q 0 some) in omega arith) in
-        let far : slice_index ds u ≢ 0 = λ e. ne (ap (slice_index place) (sym (at_zero u in_u e)) ∙ at) in
-        absurd (let k = nearer_before u 0 in_u some (omega arith) in omega arith))
-  ]
-
-  -- an edge between a slot and a nearer one
-  lead_of : (s t d : ℕ) → t < length Q.slots → slice_index place t ≡ s → d < slice_index ds t → Any (λ e. touches (marks Q d) t e ≡ true) Q.edges → (e : Edge) × Contains edges e × IsProper s e
-  lead_of s t d in_t at_t less a =
-      let e : Edge = a.1 in
-      let there = subst (λ (es : List Edge). Contains es (moved place e)) (sym same) (contains_map (moved place) Q.edges e (a.0, a.2, a.3)) in
-      let before : (u : ℕ) → reached Q d u ≡ true → slice_index place u < s = λ u h.
-      let in_u = reached_slot Q d u h in
-      let near = (are.each u in_u).least d h in
-      let k = nearer_before t u in_t in_u (omega arith) in omega arith in
-      elim (or_cases _ _ a.4) [
-        | inl h ↦ let p = and_parts _ _ h in (moved place e, there, inr (before e.from p.1, ap (slice_index place) (eqb-true e.to t p.0) ∙ at_t))
-        | inr h ↦ let p = and_parts _ _ h in (moved place e, there, inl (ap (slice_index place) (eqb-true e.from t p.0) ∙ at_t, before e.to p.1))
-      ]
-
+module _ (Q : Shape) (order place : List ℕ) (edges : List Edge) (is : IsOrder Q order) (inverse : AreInverse order place) (same : edges ≡ map (moved place) Q.edges) where
   -- a later place has an edge to an earlier one
   leading : (s : ℕ) → s < length Q.slots → s ≢ 0 → (e : Edge) × Contains edges e × IsProper s e
   leading s l ne =
       let n = is.one_each in
-      let t = slice_index order s in
-      let in_t : t < length Q.slots = (is.slots t).0 (Contains-get_or order s 0 (omega arith)) in
-      let at_t : slice_index place t ≡ s = inverse.place_of s (omega arith) in
-      let far : slice_index ds t ≢ 0 = λ e. ne (sym at_t ∙ ap (slice_index place) (at_zero t in_t e) ∙ place_zero) in
-      let d = slice_index ds t - 1 in
-      let next : slice_index ds t ≡ suc d = omega arith in
-      let within : reached Q (suc d) t ≡ true = subst (λ m. reached Q m t ≡ true) next (are.each t in_t).within in
-      elim (or_cases (reached Q d t) (list_any (touches (marks Q d) t) Q.edges) (sym (reached-next Q d t in_t) ∙ within)) [
-        | inl h ↦ absurd (let k = (are.each t in_t).least d h in omega arith)
-        | inr h ↦ lead_of s t d in_t at_t (omega arith) (Any-from_list_any (touches (marks Q d) t) Q.edges h)
+      let b = is.joined s (omega arith) ne in
+      let j = b.0 in
+      let e : Edge = b.2.0 in
+      let at_j : slice_index place (slice_index order j) ≡ j = inverse.place_of j (let h = b.1 in omega arith) in
+      let at_s : slice_index place (slice_index order s) ≡ s = inverse.place_of s (omega arith) in
+      let there = subst (λ (es : List Edge). Contains es (moved place e)) (sym same) (contains_map (moved place) Q.edges e b.2.1) in
+      elim b.2.2 [
+        | inl h ↦ (let from : slice_index place e.from ≡ j = ap (slice_index place) h.0 ∙ at_j in (moved place e, there, inr ((let k = b.1 in omega arith), ap (slice_index place) h.1 ∙ at_s)))
+        | inr h ↦ (let to : slice_index place e.to ≡ j = ap (slice_index place) h.1 ∙ at_j in (moved place e, there, inl (ap (slice_index place) h.0 ∙ at_s, (let k = b.1 in omega arith))))
       ]
 
   pub block_is : (slots : _) (s : ℕ) → s < length Q.slots → IsBlock (record { slots = slots; edges = edges }) s (block_of edges s)

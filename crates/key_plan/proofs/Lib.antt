@@ -1,3 +1,3 @@
-mod Ascending
+mod Ordered
 mod Blocks
 mod Levels

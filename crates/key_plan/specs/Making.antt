@@ -1,6 +1,9 @@
 -- Steps of making a plan (this project's own).
-use Rattle.std.specs.Prelude.{List, ℕ, Bool, true, false, AllPairs, Contains, length, filter, slice_index, slice_index_or, ◌≡◌, ◌≢◌, ◌<◌, ◌≤◌, ◌⊎◌, ◌↔◌, ◌==◌, ◌&&◌, ◌||◌, ◌++◌, nat_lt}
+use Rattle.std.specs.Prelude.{List, ℕ, Bool, true, false, Option, Some, None, AllPairs, Contains, length, filter, slice_index, slice_index_or, ◌≡◌, ◌≢◌, ◌<◌, ◌≤◌, ◌↔◌, ◌==◌, ◌&&◌, ◌||◌, ◌++◌, nat_lt}
+use Rattle.std.specs.List.{list_any}
 use Rattle.chase_laws.specs.declared.pattern.Edge.{Edge}
+use Rattle.chase_laws.specs.Shape.{Shape, touches}
+use Rattle.key_plan.specs.Order.{ComesFirst, IsBesideFirst, IsNoneOfFirst}
 
 -- a list of distances in which each slot without a mark has got this one
 pub record AreRaised (marks : List Bool) (distance : ℕ) (old new : List ℕ) : Type 0 where
@@ -13,14 +16,26 @@ pub record IsGreatest (distances : List ℕ) (most : ℕ) : Type 0 where
   pub within : (s : ℕ) → s < length distances → slice_index distances s ≤ most
   pub least : (n : ℕ) → ((s : ℕ) → s < length distances → slice_index distances s ≤ n) → most ≤ n
 
--- slot s has a smaller distance than t, or the same one and a smaller number
-abbrev pub ComesBeforeBy : List ℕ → ℕ → ℕ → Type 0
-ComesBeforeBy distances s t = (slice_index distances s < slice_index distances t) ⊎ ((slice_index distances s ≡ slice_index distances t) × (s < t))
+-- a slot that no mark is at and that an edge joins with a marked one
+pub record IsOpen (Q : Shape) (marks : List Bool) (s : ℕ) : Type 0 where
+  pub within : s < length Q.slots
+  pub unmarked : slice_index_or marks s false ≡ false
+  pub joined : list_any (touches marks s) Q.edges ≡ true
 
--- the slots below a distance, and of those at the distance the ones below slot s, in order
-pub record IsUpTo (distances : List ℕ) (distance s : ℕ) (order : List ℕ) : Type 0 where
-  pub slots : (t : ℕ) → Contains order t ↔ ((t < length distances) × ((slice_index distances t < distance) ⊎ ((slice_index distances t ≡ distance) × (t < s))))
-  pub ascending : AllPairs (ComesBeforeBy distances) order
+-- of the slots below n that are open, the one that comes first, or none where there is none
+abbrev pub IsFirstBelow : Shape → List Bool → ℕ → Option ℕ → Type 0
+IsFirstBelow Q marks n (Some s) = IsOpen Q marks s × (s < n) × ((t : ℕ) → t < n → IsOpen Q marks t → ComesFirst Q s t)
+IsFirstBelow Q marks n None = (t : ℕ) → t < n → ¬ (IsOpen Q marks t)
+
+-- slots in the order of a search, up to where it has come, with a mark at each
+pub record IsBegun (Q : Shape) (marks : List Bool) (order : List ℕ) : Type 0 where
+  pub one_each : length marks ≡ length Q.slots
+  pub marked : (s : ℕ) → Contains order s ↔ (slice_index_or marks s false ≡ true)
+  pub different : AllPairs (λ s t. s ≢ t) order
+  pub some : 0 < length order
+  pub first : slice_index order 0 ≡ 0
+  pub joined : (k : ℕ) → k < length order → k ≢ 0 → IsBesideFirst Q order k (slice_index order k)
+  pub least : (k : ℕ) → k < length order → k ≢ 0 → (s : ℕ) → s < length Q.slots → IsNoneOfFirst order k s → IsBesideFirst Q order k s → ComesFirst Q (slice_index order k) s
 
 -- at most 16 numbers: each one below their count, once
 pub record IsListing (order : List ℕ) : Type 0 where

@@ -2,7 +2,7 @@
 use Rattle.std.specs.Prelude.{List, ℕ, All, Contains, map, length, slice_get, slice_index, slice_index_or, ◌≡◌, ◌≢◌, ◌<◌, ◌≤◌, ◌⊎◌}
 use Rattle.chase_laws.specs.declared.pattern.Edge.{Edge}
 use Rattle.chase_laws.specs.Shape.{Shape, IsRadius}
-use Rattle.key_plan.specs.Distance.{IsOrder}
+use Rattle.key_plan.specs.Order.{IsOrder}
 
 -- What a plan tells (this project's own): a pattern whose slots are numbered by their places in an order, the slot of
 -- the first pattern at each place, the place of each slot, and the radius.
@@ -23,8 +23,8 @@ pub record AreInverse (order place : List ℕ) : Type 0 where
   pub place_of : (k : ℕ) → k < length order → slice_index place (slice_index order k) ≡ k
   pub slot_at : (s : ℕ) → s < length order → slice_index order (slice_index place s) ≡ s
 
--- The plan is that of pattern Q: its radius is Q's, its order is that of Q's slots by distance and number, and its
--- pattern is Q with each slot and each end of an edge under its place.
+-- The plan is that of pattern Q: its radius is Q's, its order is that of Q's slots in a search, and its pattern is Q with each
+-- slot and each end of an edge under its place.
 pub record IsPlanOf (Q : Shape) (P : Route) : Type 0 where
   pub radius : IsRadius Q P.radius
   pub order : IsOrder Q P.order

@@ -27,7 +27,7 @@ fn joins(edge: Edge, marks: &[bool], slot: usize) -> bool
 }
 
 /// Whether some edge does.
-fn is_joined(edges: &[Edge], marks: &[bool], slot: usize) -> bool
+pub fn is_joined(edges: &[Edge], marks: &[bool], slot: usize) -> bool
     ensures { result ≡ list_any (touches marks.now slot) edges.now }
 {
     edges.iter().any(|edge| joins(*edge, marks, slot))
@@ -42,7 +42,7 @@ fn is_within(edges: &[Edge], marks: &[bool], slot: usize) -> bool
 }
 
 /// A mark for slot 0 alone.
-fn first_marks(alloc: Global, pattern: &Pattern) -> Result<Vec<bool>, NoMemory>
+pub fn first_marks(alloc: Global, pattern: &Pattern) -> Result<Vec<bool>, NoMemory>
     ensures { IfOk result (λ v. v.items ≡ marks pattern.now 0) }
 {
     let count = pattern.slots().len();

@@ -11,9 +11,10 @@ use gk_base::NoMemory;
 use std::alloc::Global;
 use std::marker::Model;
 
-/// In which order a search goes through the slots of a pattern: by their undirected distance from slot 0, and those
-/// at one distance by their numbers. A plan holds the pattern with its slots numbered by their places in that order;
-/// contracts see it as that pattern, the order, the places and the radius.
+/// In which order a search goes through the slots of a pattern: slot 0, and then always, of those that an edge joins with one
+/// before, a constant before a value variable, that before an entity variable, that before a wildcard, and else the one with the
+/// least number. A plan holds the pattern with its slots numbered by their places in that order; contracts see it as that
+/// pattern, the order, the places and the radius.
 #[derive(Drop)]
 pub struct Plan {
     slots: Vec<Slot>,
@@ -42,7 +43,7 @@ impl Plan {
         ensures { IfOk result (λ plan. IsPlanOf pattern.now plan) }
     {
         let distances = distances(alloc, pattern)?;
-        let order = slot_order(alloc, pattern, &distances)?;
+        let order = slot_order(alloc, pattern)?;
         let place = places(alloc, &order)?;
         let slots = moved_slots(alloc, pattern.slots(), &order)?;
         let edges = moved_edges(alloc, pattern.edges(), &place)?;
@@ -65,7 +66,7 @@ impl Plan {
         self.radius
     }
 
-    /// The slots by their undirected distance from slot 0, and those at one distance by their numbers.
+    /// The slots in the order of a search.
     pub fn order(&self) -> &[u8]
         ensures { result.now ≡ self.now.order }
     {

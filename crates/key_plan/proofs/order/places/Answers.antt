@@ -3,7 +3,7 @@ use Rattle.std.proofs.Common.{ℕ, ◌≢◌, ◌<◌, length, slice_index, get_
 use Rattle.std.proofs.Math.ListN.{set, length-set}
 use Rattle.std.proofs.lemmas.Bool.{cases_eq}
 use Rattle.std.proofs.lemmas.List.Elements.{Contains-get_or}
-use Rattle.key_plan.proofs.Ascending.{inverse_of}
+use Rattle.key_plan.proofs.Ordered.{inverse_of}
 use Rattle.key_plan.proofs.order.places.Goals as goal
 
 pub index_mut-requires : goal.index_mut-requires
