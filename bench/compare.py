@@ -1,7 +1,9 @@
 #!/usr/bin/env python3
 """Compares `gkey match` with a plain matcher on random small graphs and key files.
 
-Usage: bench/compare.py [RUNS [SEED]]. It ends with status 0 where every report is the same.
+Usage: bench/compare.py [--before PROGRAM] [RUNS [SEED]]. It ends with status 0 where every report is the same.
+With `--before` another program has to print the same, too: one that always goes by signatures, say, which is this one where
+`PAIRS_A_NAME` of crates/chase_ways/src/way.rt is 0.
 The matcher here lists whole valuations, joins what coincides and begins again until nothing changes. It works on the
 terms before they are written down, so it reads neither graphs nor keys, and shares nothing with the program.
 """
@@ -14,7 +16,7 @@ import sys
 import tempfile
 from typing import NamedTuple, Optional
 
-from timing import PROGRAM, built
+from timing import built, programs
 
 XSD_STRING = "http://www.w3.org/2001/XMLSchema#string"
 
@@ -212,8 +214,9 @@ def random_key(rng, number, types, predicates, things, literals):
 
 
 def main():
-    runs = int(sys.argv[1]) if len(sys.argv) > 1 else 1000
-    rng = random.Random(int(sys.argv[2]) if len(sys.argv) > 2 else 1)
+    compared, words = programs(sys.argv[1:])
+    runs = int(words[0]) if words else 1000
+    rng = random.Random(int(words[1]) if len(words) > 1 else 1)
     built()
     with_classes = 0
     with tempfile.TemporaryDirectory() as folder:
@@ -225,10 +228,11 @@ def main():
             matcher = Matcher(rows, keys)
             matcher.chase()
             wanted = matcher.report()
-            done = subprocess.run([PROGRAM, "match", graph, keys_file], capture_output=True)
-            if (done.returncode, done.stdout, done.stderr) != (0, wanted, b""):
-                sys.exit(f"run {number} differs:\n{graph.read_bytes()!r}\n{keys_file.read_bytes()!r}\n"
-                         f"wanted {wanted!r}\ngot {done}")
+            for program in compared:
+                done = subprocess.run([program, "match", graph, keys_file], capture_output=True)
+                if (done.returncode, done.stdout, done.stderr) != (0, wanted, b""):
+                    sys.exit(f"run {number} differs:\n{graph.read_bytes()!r}\n{keys_file.read_bytes()!r}\n"
+                             f"wanted {wanted!r}\ngot {done}")
             with_classes += wanted != b""
     print(f"{runs} runs agree, {with_classes} of them with classes")
 

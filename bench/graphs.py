@@ -61,6 +61,16 @@ _p <urn:of> ?o
 end
 """
 
+FANNED_KEYS = """key fanned <urn:T>
+entity ?y <urn:O>
+entity ?z <urn:P>
+value $n
+?x <urn:name> $n
+?x <urn:one> ?y
+?x <urn:other> ?z
+end
+"""
+
 BIBLIOGRAPHY_KEYS = f"""# Two sources of one bibliography.
 key series_by_issn <{SITE}Series>
 value $i
@@ -330,6 +340,16 @@ def wide(out, pairs, seed=1, parts=12):
             out.write(f'{thing} <urn:tag> "all" .\n{thing} <urn:of> {maker} .\n{maker} {TYPE} <urn:O> .\n')
 
 
+def fanned(out, pairs, seed=1, many=40):
+    """Entities of one name, each of which leads to many of its own by either of two predicates: far more valuations than entities,
+    and none is another."""
+    for i in range(members(pairs)):
+        entity(out, f"a:{i}", "one")
+        for n in range(many):
+            out.write(f"<urn:a:{i}> <urn:one> <urn:o:{i}:{n}> .\n<urn:o:{i}:{n}> {TYPE} <urn:O> .\n")
+            out.write(f"<urn:a:{i}> <urn:other> <urn:p:{i}:{n}> .\n<urn:p:{i}:{n}> {TYPE} <urn:P> .\n")
+
+
 KINDS = {
     "catalogue": (catalogue, CATALOGUE_KEYS),
     "crowded": (crowded, CATALOGUE_KEYS),
@@ -341,6 +361,7 @@ KINDS = {
     "chain": (chain, CHAIN_KEYS),
     "linked": (linked, LINKED_KEYS),
     "wide": (wide, WIDE_KEYS),
+    "fanned": (fanned, FANNED_KEYS),
     "mixed": (mixed, NO_KEY),
 }
 

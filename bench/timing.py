@@ -60,10 +60,10 @@ def print_load():
     print("load of the machine:", *(f"{load:.1f}" for load in os.getloadavg()), "with", os.cpu_count(), "processors")
 
 
-def timed(command):
-    """One run, whose output goes to the null device."""
-    with open(os.devnull, "wb") as null:
-        child = subprocess.Popen(command, stdout=null)
+def timed(command, out=os.devnull):
+    """One run, whose output goes to the null device or to a file."""
+    with open(out, "wb") as sink:
+        child = subprocess.Popen(command, stdout=sink)
         _, status, usage = os.wait4(child.pid, 0)
     if status != 0:
         sys.exit(f"{command[0]}: status {os.waitstatus_to_exitcode(status)}")

@@ -5,6 +5,9 @@ use Rattle.gk_base.specs.Term.{is_literal}
 use Rattle.gk_base.specs.declared.term.Triple.{Triple}
 use Rattle.gk_base.specs.declared.stop.Stop.{Stop}
 use Rattle.gk_base.specs.declared.stop.Stop.TheVariants as stop
+use Rattle.chase_laws.specs.Shape.{Shape}
+use Rattle.chase_laws.specs.Graph.{NumberedGraph}
+use Rattle.pair_seed.specs.Stop.{IsRightStop}
 use Rattle.pair_seed.specs.declared.stop.TooManyPairs.{TooManyPairs}
 use Rattle.key_file.specs.KeyShape.{KeyShape}
 use Rattle.gkey_cmd.specs.Matched.{IsReport, HasTooManyPairs}
@@ -29,14 +32,27 @@ abbrev pub IsRightChaseStop : List Triple → List KeyShape → ℕ → Stop Too
 IsRightChaseStop triples keys limit stop.NoMemory = ⊤
 IsRightChaseStop triples keys limit (stop.Fault many) = HasTooManyPairs triples keys limit
 
--- a command with a chase whose files are read has its text, or is refused for too many pairs, or wants memory
+-- the ending of a run whose chase was stopped
+abbrev pub chase_ending : ℕ → Stop TooManyPairs → Ending
+chase_ending limit stop.NoMemory = NoMemory
+chase_ending limit (stop.Fault many) = Refused (MorePairsThan limit)
+
+-- the ending of a run whose chase over this graph in numbers was stopped, rightly
+abbrev pub IsStopped : NumberedGraph → List Shape → ℕ → Ending → Type 0
+IsStopped G K limit ending = (s : Stop TooManyPairs) × IsRightStop G K limit s × (ending ≡ chase_ending limit s)
+
+-- a command with a chase is refused for too many pairs, or wants memory
+abbrev pub IsChaseEnding : List Triple → List KeyShape → ℕ → Ending → Type 0
+IsChaseEnding triples keys limit (Refused refusal) = (refusal ≡ MorePairsThan limit) × HasTooManyPairs triples keys limit
+IsChaseEnding triples keys limit NoMemory = ⊤
+IsChaseEnding triples keys limit NoCommand = ⊥
+IsChaseEnding triples keys limit (Failed file) = ⊥
+IsChaseEnding triples keys limit (Done answer text) = ⊥
+
+-- a command with a chase whose files are read has its text, or ends so
 abbrev pub ChaseEnds : (List Triple → List KeyShape → List ℕ → Type 0) → List Triple → List KeyShape → ℕ → Result (Vec ℕ Global) Ending → Type 0
 ChaseEnds IsText triples keys limit (Ok text) = IsText triples keys (vec_items text) × ¬ (HasTooManyPairs triples keys limit)
-ChaseEnds IsText triples keys limit (Err (Refused refusal)) = (refusal ≡ MorePairsThan limit) × HasTooManyPairs triples keys limit
-ChaseEnds IsText triples keys limit (Err NoMemory) = ⊤
-ChaseEnds IsText triples keys limit (Err NoCommand) = ⊥
-ChaseEnds IsText triples keys limit (Err (Failed file)) = ⊥
-ChaseEnds IsText triples keys limit (Err (Done answer text)) = ⊥
+ChaseEnds IsText triples keys limit (Err ending) = IsChaseEnding triples keys limit ending
 
 -- the text of a proof, where graph and keys are as files say them: their names can be spelled, and the keys have names
 abbrev pub IsProofOfFiles : List Triple → List KeyShape → List ℕ → Type 0

@@ -1,11 +1,9 @@
 -- What a chase of files works on, and the texts that it is made into when it is finished: this project's own words.
-use Rattle.std.specs.Prelude.{List, ℕ, true, All, map, length, Ok, ◌≡◌, ◌≤◌}
+use Rattle.std.specs.Prelude.{List, ℕ, true, All, map, length, Ok, ◌≡◌, ◌≤◌, ◌<◌, ◌^◌}
 use Rattle.gk_base.specs.declared.term.Term.{Term}
 use Rattle.gk_base.specs.declared.term.Triple.{Triple}
 use Rattle.chase_laws.specs.declared.entry.Entry.{Entry}
-use Rattle.chase_laws.specs.Shape.{Shape}
-use Rattle.chase_laws.specs.Graph.{NumberedGraph}
-use Rattle.chase_laws.specs.Core.{Task}
+use Rattle.chase_ways.specs.Ground.{GroundShape}
 use Rattle.chase_laws.specs.Joined.{links}
 use Rattle.match_run.specs.Classes.{AreClasses, IsFinishedJournal}
 use Rattle.term_table.specs.Numbering.{place_of}
@@ -24,11 +22,22 @@ use Rattle.demo_graph.specs.DemoLine.{demo_line_text}
 use Rattle.merge_graph.specs.MergedGraph.{same_label, triple_at, IsSortedText, AreApart}
 use Rattle.merge_graph.specs.Saying.{CanBeSaid, IsReadAsMerged}
 
--- the names, and the graph and the patterns of a task, are those of these triples and keys, in numbers
-pub record AreOfFiles (terms : List Term) (task : Task) (triples : List Triple) (keys : List KeyShape) : Type 0 where
+-- a number of candidate pairs and a number of workers that a chase may be given
+pub record AreInRange (limit workers : ℕ) : Type 0 where
+  pub limit : limit < 2 ^ 32
+  pub some : 0 < workers
+  pub few : workers ≤ 64
+
+-- the names, and the graph and the patterns that were chased, are those of these triples and keys, in numbers
+pub record AreOfFiles (terms : List Term) (ground : GroundShape) (triples : List Triple) (keys : List KeyShape) : Type 0 where
   pub names : terms ≡ names_for triples keys
-  pub graph : AreSameGraph task.patterns task.graph (graph_of terms triples)
-  pub patterns : task.patterns ≡ patterns_of terms keys
+  pub graph : AreSameGraph ground.patterns ground.graph (graph_of terms triples)
+  pub patterns : ground.patterns ≡ patterns_of terms keys
+
+-- the labels are the classes, and the entries a finished journal
+pub record IsFinished (ground : GroundShape) (labels : List ℕ) (journal : List Entry) : Type 0 where
+  pub classes : AreClasses ground.graph ground.patterns labels
+  pub journal : IsFinishedJournal ground.graph ground.patterns journal
 
 -- the numbers of the two terms that a step makes the same
 abbrev pub step_link : List Term → StepShape → ℕ × ℕ
@@ -36,19 +45,19 @@ step_link names step = (place_of names (term_at step.left 0), place_of names (te
 
 -- The text is that of a proof, whose steps tell the entries of a finished journal, and make the same what the entries do. Where
 -- names and keys can be written, it is read as these steps.
-pub record TellsJournal (G : NumberedGraph) (K : List Shape) (names : List Term) (key_names : List (List ℕ)) (text : List ℕ) : Type 0 where
+pub record TellsJournal (ground : GroundShape) (names : List Term) (key_names : List (List ℕ)) (text : List ℕ) : Type 0 where
   pub journal : List Entry
   pub steps : List StepShape
-  pub finished : IsFinishedJournal G K journal
-  pub tells : TellsAll names K key_names journal steps
+  pub finished : IsFinishedJournal ground.graph ground.patterns journal
+  pub tells : TellsAll names ground.patterns key_names journal steps
   pub ends : map (step_link names) steps ≡ links journal
   pub written : text ≡ proof_text steps
   pub reads : All CanBeSpelled names → All (λ name. is_name name ≡ true) key_names → (limit : ℕ) → length text ≤ limit → ProofSays limit text (Ok steps)
 
 -- The line has two numbers that were given, and the counts of labels that are the classes.
-pub record TellsCounts (G : NumberedGraph) (K : List Shape) (triples pairs : ℕ) (line : List ℕ) : Type 0 where
+pub record TellsCounts (ground : GroundShape) (triples pairs : ℕ) (line : List ℕ) : Type 0 where
   pub labels : List ℕ
-  pub classes : AreClasses G K labels
+  pub classes : AreClasses ground.graph ground.patterns labels
   pub class_count : ℕ
   pub member_count : ℕ
   pub class_number : IsClassCount labels class_count
@@ -57,8 +66,8 @@ pub record TellsCounts (G : NumberedGraph) (K : List Shape) (triples pairs : ℕ
 
 -- By labels that are the classes: where each name is alone in its class, the text is the graph itself, sorted; and where the
 -- text can be said, it is read as the graph that is merged by them.
-pub record TellsMerged (G : NumberedGraph) (K : List Shape) (names : List Term) (text : List ℕ) : Type 0 where
+pub record TellsMerged (ground : GroundShape) (names : List Term) (text : List ℕ) : Type 0 where
   pub labels : List ℕ
-  pub classes : AreClasses G K labels
-  pub unmerged : AreApart labels → IsSortedText (map (triple_at names) G.rows) text
-  pub read_back : CanBeSaid names G.rows labels → IsReadAsMerged names G.rows (same_label labels) text
+  pub classes : AreClasses ground.graph ground.patterns labels
+  pub unmerged : AreApart labels → IsSortedText (map (triple_at names) ground.graph.rows) text
+  pub read_back : CanBeSaid names ground.graph.rows labels → IsReadAsMerged names ground.graph.rows (same_label labels) text

@@ -5,7 +5,7 @@
 //! - `words`: the commands and the words that ask for them
 //! - `file`: the files that a command reads
 //! - `order`: the order in which they are read, and what comes after the last
-//! - `prepared`: what a chase of files works on
+//! - `chased`: the chase of a command's files
 //! - `matched`, `proved`, `checked`, `converted`, `counted`, `merged`, `explained`, `grown`: what each command prints
 //! - `entities`: which entity of the graph a word names
 //! - `ending`: how a run ends, and what it leaves
@@ -14,6 +14,7 @@
 //! - `laws`: what holds of every answer
 #![tactic(auto)]
 
+mod chased;
 mod checked;
 mod converted;
 mod counted;
@@ -26,7 +27,6 @@ mod laws;
 mod matched;
 mod merged;
 mod order;
-mod prepared;
 mod proved;
 mod texts;
 mod top;

@@ -10,8 +10,10 @@ ghost use Rattle.gkey_cmd.specs.HowFar.{KeysLeft, ProofLeft};
 ghost use Rattle.graph_rows.specs.Rows.{StandFor, AreFew, LeaveRoom};
 ghost use Rattle.gkey_cmd.specs.Demo.{demo_files};
 ghost use Rattle.gkey_cmd.specs.Endings.{EndsAt, Stopped, DemoStops, IsBeforeChase, ReadBoth, ReadMore, ReadProof, ReadThree};
+ghost use Rattle.gkey_cmd.specs.Told.{AreInRange};
 ghost use Rattle.proof_check.specs.Ready.{IsReady};
 
+use crate::chased::ChaseOptions;
 use crate::checked::check_files;
 use crate::converted::convert_file;
 use crate::counted::count_files;
@@ -173,6 +175,20 @@ fn read_graphs_and_keys<Rt: Threads + Wait + Sync, S: Shelf>(
     Ok((both, key_list))
 }
 
+/// How a chase goes under these limits.
+fn options<'g, G: Gate>(limits: &Limits, workers: u32, gate: &'g G) -> ChaseOptions<'g, G>
+    requires limits { AreAtMostStandard limits.now }
+    requires workers { (0 < workers) × (workers ≤ 64) }
+    ensures range { AreInRange result.limit result.workers }
+    ensures limit { result.limit ≡ limits.now.pairs }
+{
+    ChaseOptions {
+        limit: limits.pairs,
+        workers,
+        gate,
+    }
+}
+
 /// The report of `match`, or the ending of a run that has none: the files are read, and then the chase runs, with so many
 /// workers that pass the gate before each search.
 pub(crate) fn matched<Rt: Threads + Wait + Sync, S: Shelf, G: Gate>(
@@ -191,7 +207,7 @@ pub(crate) fn matched<Rt: Threads + Wait + Sync, S: Shelf, G: Gate>(
         MatchResult result (λ text. Stops (Ending.Done Answer.Given text)) Stops }
 {
     let (rows, read) = read_graph_and_keys(rt, alloc, workers, shelf, graph, keys, limits)?;
-    match_files(rt, alloc, rows, &read, limits.pairs, workers, gate)
+    match_files(rt, alloc, rows, &read, &options(limits, workers, gate))
 }
 
 /// The proof of `prove`, or the ending of a run that has none: the files come as for `match`, then the chase.
@@ -211,7 +227,7 @@ pub(crate) fn proved<Rt: Threads + Wait + Sync, S: Shelf, G: Gate>(
         MatchResult result (λ text. Stops (Ending.Done Answer.Given text)) Stops }
 {
     let (rows, read) = read_graph_and_keys(rt, alloc, workers, shelf, graph, keys, limits)?;
-    prove_files(rt, alloc, rows, &read, limits.pairs, workers, gate)
+    prove_files(rt, alloc, rows, &read, &options(limits, workers, gate))
 }
 
 /// The merged graph of `merge`, or the ending of a run that has none: the files come as for `match`, then the chase.
@@ -231,7 +247,7 @@ pub(crate) fn merged<Rt: Threads + Wait + Sync, S: Shelf, G: Gate>(
         MatchResult result (λ text. Stops (Ending.Done Answer.Given text)) Stops }
 {
     let (rows, read) = read_graph_and_keys(rt, alloc, workers, shelf, graph, keys, limits)?;
-    merge_files(rt, alloc, rows, &read, limits.pairs, workers, gate)
+    merge_files(rt, alloc, rows, &read, &options(limits, workers, gate))
 }
 
 /// The answer of `why` and its text, or the ending of a run that has none: the files come as for `match`, then the words for
@@ -254,16 +270,14 @@ pub(crate) fn explained<Rt: Threads + Wait + Sync, S: Shelf, G: Gate>(
         MatchResult result (λ r. Stops (Ending.Done r.0 r.1)) Stops }
 {
     let (rows, read) = read_graph_and_keys(rt, alloc, workers, shelf, graph, keys, limits)?;
+    let words = (first, second);
     explain_files(
         rt,
         alloc,
         rows,
         &read,
-        first,
-        second,
-        limits.pairs,
-        workers,
-        gate,
+        words,
+        &options(limits, workers, gate),
     )
 }
 
@@ -286,16 +300,7 @@ pub(crate) fn grown<Rt: Threads + Wait + Sync, S: Shelf, G: Gate>(
         MatchResult result (λ text. Stops (Ending.Done Answer.Given text)) Stops }
 {
     let (both, read) = read_graphs_and_keys(rt, alloc, workers, shelf, graph, more, keys, limits)?;
-    grow_files(
-        rt,
-        alloc,
-        both.rows,
-        both.first,
-        &read,
-        limits.pairs,
-        workers,
-        gate,
-    )
+    grow_files(rt, alloc, both, &read, &options(limits, workers, gate))
 }
 
 /// A demo's own two texts, as files.
@@ -330,7 +335,7 @@ pub(crate) fn demonstrated<Rt: Threads + Wait + Sync, G: Gate>(
     let keys = Text::from_bytes(alloc, DEMO_KEYS)?;
     let mut shelf = demo_shelf(alloc, n)?;
     let (rows, read) = read_graph_and_keys(rt, alloc, workers, &mut shelf, &graph, &keys, limits)?;
-    count_files(rt, alloc, rows, &read, limits.pairs, workers, gate)
+    count_files(rt, alloc, rows, &read, &options(limits, workers, gate))
 }
 
 /// The checker for these rows of a graph and these keys.
