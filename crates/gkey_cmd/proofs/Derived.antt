@@ -30,6 +30,7 @@ use Rattle.proof_check.specs.Verdict.{verdict}
 use Rattle.proof_check.specs.StepEntries.{step_entries}
 use Rattle.proof_check.specs.declared.verdict.Verdict.TheVariants.{Accepted}
 use Rattle.gkey_cmd.specs.ChaseEnds.{IsProofOfFiles}
+use Rattle.chase_ways.specs.Ground.{GroundShape}
 use Rattle.gkey_cmd.specs.Told.{step_link, TellsJournal}
 
 -- ---- each entry of a derivation can be told
@@ -174,16 +175,16 @@ entry_links : (names : List Term) (keys : List KeyShape) (steps : List StepShape
 entry_links names keys [] = refl
 entry_links names keys (step ∷ steps) = ap (λ ps. step_link names step ∷ ps) (entry_links names keys steps)
 
-module _ (triples : List Triple) (keys : List KeyShape) (G : NumberedGraph) (names : List Term) (K : List Shape) (are_names : names ≡ names_for triples keys) (built : AreSameGraph K G (graph_of names triples)) (are_patterns : K ≡ patterns_of names keys)
-    (is_key_file : IsKeyFile keys) (derivation : DerivationLaw) (closed : ClosedLaw) (chase : ChaseLaw) (accepted : AcceptedLaw) (text : List ℕ) (told : TellsJournal G K names (map (λ (k : KeyShape). k.name) keys) text) where
+module _ (triples : List Triple) (keys : List KeyShape) (ground : GroundShape) (names : List Term) (are_names : names ≡ names_for triples keys) (built : AreSameGraph ground.patterns ground.graph (graph_of names triples)) (are_patterns : ground.patterns ≡ patterns_of names keys)
+    (is_key_file : IsKeyFile keys) (derivation : DerivationLaw) (closed : ClosedLaw) (chase : ChaseLaw) (accepted : AcceptedLaw) (text : List ℕ) (told : TellsJournal ground names (map (λ (k : KeyShape). k.name) keys) text) where
   abbrev Told : List Term → List Shape → Type 0
   Told ns k = IsDerivation (graph_of ns triples) k told.journal × IsClosed (graph_of ns triples) k told.journal
       × TellsAll ns k (map (λ (q : KeyShape). q.name) keys) told.journal told.steps × (map (step_link ns) told.steps ≡ links told.journal)
 
-  told_here : Told names K
+  told_here : Told names ground.patterns
   told_here = (
-    derivation G (graph_of names triples) K built.there told.journal told.finished.derivation,
-    (closed G (graph_of names triples) K built.there built.back told.journal).0 told.finished.closed,
+    derivation ground.graph (graph_of names triples) ground.patterns built.there told.journal told.finished.derivation,
+    (closed ground.graph (graph_of names triples) ground.patterns built.there built.back told.journal).0 told.finished.closed,
     told.tells,
     told.ends,
   )

@@ -12,3 +12,7 @@ if_err_more P R more (Err e) h = more e h
 pub on_ok : {T E : Type 0} (P : Type 0) → P → (answer : Result T E) → OnOk answer P
 on_ok P h (Ok t) = h
 on_ok P h (Err e) = tt
+
+pub on_ok_more : {T E : Type 0} (P R : Type 0) → (P → R) → (answer : Result T E) → OnOk answer P → OnOk answer R
+on_ok_more P R more (Ok t) h = more h
+on_ok_more P R more (Err e) h = tt

@@ -1,5 +1,5 @@
 -- The text of a proof for two names, and what it says of the triples and the keys.
-use Rattle.std.proofs.Common.{List, [], ◌∷◌, ◌++◌, ℕ, Bool, true, false, Some, Ok, Err, All, map, length, slice_get, ◌≡◌, ◌↔◌, ◌<◌, ◌≤◌, ◌^◌, sym, subst, arith}
+use Rattle.std.proofs.Common.{List, [], ◌∷◌, ◌++◌, ℕ, Bool, true, false, Some, Ok, Err, All, map, length, slice_get, ◌≡◌, ◌↔◌, ◌<◌, ◌≤◌, ◌^◌, refl, sym, subst, arith}
 use Rattle.std.proofs.lemmas.Option.{get_or_from_slice_get}
 use Rattle.gk_base.specs.declared.term.Term.{Term}
 use Rattle.gk_base.specs.declared.term.Term.TheVariants.{Plain}
@@ -27,14 +27,19 @@ use Rattle.why_pair.specs.Kept.{kept_by}
 use Rattle.why_pair.specs.Why.{StepsLead, AllReached, TellsPart}
 use Rattle.gkey_cmd.specs.Explained.{SpellApart}
 use Rattle.gkey_cmd.specs.WhyParts.{SpellsNumber, SpellTwo, TellsPair}
-use Rattle.gkey_cmd.specs.ChaseEnds.{IsWhyOfFiles, NameTwo, WhyEnds}
+use Rattle.gk_base.specs.declared.stop.Stop.{Stop}
+use Rattle.gk_base.specs.declared.stop.Stop.TheVariants as stop
+use Rattle.pair_seed.specs.Stop.{IsRightStop}
+use Rattle.pair_seed.specs.declared.stop.TooManyPairs.{TooManyPairs}
+use Rattle.match_run.proofs.CallerLemmas.{CandidateLaw}
+use Rattle.gkey_cmd.specs.ChaseEnds.{IsWhyOfFiles, NameTwo, WhyEnds, IsStopped, chase_ending}
 use Rattle.gkey_cmd.specs.declared.ending.Answer.TheVariants.{Given}
 use Rattle.gkey_cmd.specs.declared.ending.Asked.TheVariants.{First, Second}
 use Rattle.gkey_cmd.specs.declared.ending.Refusal.TheVariants.{InGraph, InMore, InKeys, InProof, NoSuchEntity, MorePairsThan}
 use Rattle.gkey_cmd.specs.declared.ending.Ending.{Ending}
 use Rattle.gkey_cmd.specs.declared.ending.Ending.TheVariants.{NoCommand, Failed, Refused, NoMemory, Done}
 use Rattle.gkey_cmd.proofs.Derived.{derived_supported, few_entries, DerivationLaw, AcceptedLaw}
-use Rattle.gkey_cmd.proofs.Reports.{SameLaw, said}
+use Rattle.gkey_cmd.proofs.Reports.{SameLaw, said, too_many}
 use Rattle.gkey_cmd.proofs.Finding.{spells_entity, names_one, names_none}
 
 -- ---- the text of a part of a journal
@@ -120,6 +125,14 @@ module _ (triples : List Triple) (keys : List KeyShape) (G : NumberedGraph) (nam
   words_end first second limit NoCommand h = h
   words_end first second limit (Failed file) h = h
   words_end first second limit (Done answer text) h = h
+
+  -- and how one ends whose words do, where its chase is stopped
+  pub chase_ends : CandidateLaw → (first second : List ℕ) (limit : ℕ) (ending : Ending) → NameTwo triples first second → IsStopped G K limit ending → WhyEnds triples keys first second limit (Err ending)
+  chase_ends law first second limit ending two s = subst (λ e. WhyEnds triples keys first second limit (Err e)) (sym s.2) (of_stop s.0 s.1)
+    where
+      of_stop : (stop : Stop TooManyPairs) → IsRightStop G K limit stop → WhyEnds triples keys first second limit (Err (chase_ending limit stop))
+      of_stop stop.NoMemory h = tt
+      of_stop (stop.Fault many) h = (two, too_many triples keys G names K are_names built are_patterns law limit h.1, refl)
 
   module _ (same : SameLaw) (first second : List ℕ) (a b : ℕ) (x : SpellsNumber G names first a) (y : SpellsNumber G names second b) where
     -- what is said of the two names, said of the terms

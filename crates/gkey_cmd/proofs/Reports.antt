@@ -1,5 +1,5 @@
 -- The report of the graph that was built is that of the triples.
-use Rattle.std.proofs.Common.{List, ℕ, Bool, IsTrue, ◌↔◌, length, slice_index, ◌==◌, ◌≡◌, ◌∙◌, ◌<◌, sym, ap, subst, arith, eqb-true, eq-eqb}
+use Rattle.std.proofs.Common.{List, ℕ, Bool, IsTrue, ◌↔◌, length, slice_index, ◌==◌, ◌≡◌, ◌∙◌, ◌<◌, refl, sym, ap, subst, arith, eqb-true, eq-eqb}
 use Rattle.std.proofs.lemmas.List.{length-map}
 use Rattle.gk_base.specs.Term.{is_literal}
 use Rattle.gk_base.specs.declared.term.Term.{Term}
@@ -21,8 +21,11 @@ use Rattle.key_file.specs.KeyShape.{KeyShape}
 use Rattle.key_file.specs.Compile.{patterns_of}
 use Rattle.key_file.specs.Numbered.{names_for, graph_of}
 use Rattle.graph_rows.specs.Numbered.{AreSameGraph}
+use Rattle.chase_ways.specs.Ground.{GroundShape}
 use Rattle.gkey_cmd.specs.Matched.{IsReport, HasTooManyPairs}
-use Rattle.gkey_cmd.specs.ChaseEnds.{IsRightChaseStop}
+use Rattle.gkey_cmd.specs.Told.{AreOfFiles}
+use Rattle.gkey_cmd.specs.ChaseEnds.{chase_ending, IsStopped, IsChaseEnding}
+use Rattle.gkey_cmd.specs.declared.ending.Ending.{Ending}
 
 -- what the law of more rows says of the same names
 abbrev pub SameLaw : Type 0
@@ -58,6 +61,21 @@ module _ (triples : List Triple) (keys : List KeyShape) (G : NumberedGraph) (nam
   not_too_many law limit none_more h = none_more (more_too law (graph_of names triples) G K limit built.back
       (subst (λ k. HasMoreCandidates (graph_of names triples) k limit) (sym are_patterns) (subst (λ ns. HasMoreCandidates (graph_of ns triples) (patterns_of ns keys) limit) (sym are_names) h)))
 
-  pub right_stop : CandidateLaw → (limit : ℕ) (stop : Stop TooManyPairs) → IsRightStop G K limit stop → IsRightChaseStop triples keys limit stop
-  right_stop law limit NoMemory h = tt
-  right_stop law limit (Fault many) h = too_many law limit h.1
+  -- a chase that is stopped over the numbers is so over the triples
+  pub right_ending : CandidateLaw → (limit : ℕ) (ending : Ending) → IsStopped G K limit ending → IsChaseEnding triples keys limit ending
+  right_ending law limit ending s = subst (IsChaseEnding triples keys limit) (sym s.2) (of_stop s.0 s.1)
+    where
+      of_stop : (stop : Stop TooManyPairs) → IsRightStop G K limit stop → IsChaseEnding triples keys limit (chase_ending limit stop)
+      of_stop NoMemory h = tt
+      of_stop (Fault many) h = (refl, too_many law limit h.1)
+
+-- what was numbered is what was chased
+pub of_numbered : (triples : List Triple) (keys : List KeyShape) (names chased_names : List Term) (G : NumberedGraph) (K : List Shape) (ground : GroundShape) →
+    names ≡ names_for triples keys → AreSameGraph K G (graph_of names triples) → K ≡ patterns_of names keys →
+    chased_names ≡ names → ground.graph ≡ G → ground.patterns ≡ K → AreOfFiles chased_names ground triples keys
+of_numbered triples keys names chased_names G K ground are_names built are_patterns same_names same_graph same_patterns = record {
+  names = same_names ∙ are_names;
+  graph = subst (λ ns. AreSameGraph ground.patterns ground.graph (graph_of ns triples)) (sym same_names)
+      (subst (λ k. AreSameGraph k ground.graph (graph_of names triples)) (sym same_patterns) (subst (λ F. AreSameGraph K F (graph_of names triples)) (sym same_graph) built));
+  patterns = same_patterns ∙ are_patterns ∙ ap (λ ns. patterns_of ns keys) (sym same_names);
+}

@@ -27,11 +27,6 @@ use Rattle.gkey_cmd.specs.declared.ending.Refusal.TheVariants.{InGraph, InMore, 
 use Rattle.gkey_cmd.specs.declared.ending.Ending.{Ending}
 use Rattle.gkey_cmd.specs.declared.ending.Ending.TheVariants.{NoCommand, Failed, Refused, NoMemory, Done}
 
--- 'too many pairs' only where there are more than the limit; want of memory at any time
-abbrev pub IsRightChaseStop : List Triple → List KeyShape → ℕ → Stop TooManyPairs → Type 0
-IsRightChaseStop triples keys limit stop.NoMemory = ⊤
-IsRightChaseStop triples keys limit (stop.Fault many) = HasTooManyPairs triples keys limit
-
 -- the ending of a run whose chase was stopped
 abbrev pub chase_ending : ℕ → Stop TooManyPairs → Ending
 chase_ending limit stop.NoMemory = NoMemory

@@ -24,7 +24,7 @@ use Rattle.merge_graph.specs.Saying.{CanBeSaid, IsReadAsMerged}
 
 -- a number of candidate pairs and a number of workers that a chase may be given
 pub record AreInRange (limit workers : ℕ) : Type 0 where
-  pub limit : limit < 2 ^ 32
+  pub below : limit < 2 ^ 32
   pub some : 0 < workers
   pub few : workers ≤ 64
 
@@ -35,9 +35,9 @@ pub record AreOfFiles (terms : List Term) (ground : GroundShape) (triples : List
   pub patterns : ground.patterns ≡ patterns_of terms keys
 
 -- the labels are the classes, and the entries a finished journal
-pub record IsFinished (ground : GroundShape) (labels : List ℕ) (journal : List Entry) : Type 0 where
+pub record IsFinished (ground : GroundShape) (labels : List ℕ) (entries : List Entry) : Type 0 where
   pub classes : AreClasses ground.graph ground.patterns labels
-  pub journal : IsFinishedJournal ground.graph ground.patterns journal
+  pub journal : IsFinishedJournal ground.graph ground.patterns entries
 
 -- the numbers of the two terms that a step makes the same
 abbrev pub step_link : List Term → StepShape → ℕ × ℕ

@@ -83,7 +83,9 @@ fn pair_text(
     law_proof_read_back();
     let patterns = finished.ground.patterns();
     all_valid(patterns);
-    let _graph = finished.ground.graph();
+    // For the proof alone: what a graph and its names are.
+    let graph = finished.ground.graph();
+    let _names = graph.names();
     let _distinct = names.len();
     let (a, b) = pair;
     let key_names = key_names(alloc, keys)?;
@@ -107,7 +109,7 @@ pub fn explain_files<Rt: Threads + Wait + Sync, G: Gate>(
 ) -> Result<(Answer, Vec<u8>), Ending>
     requires few { AreFew rows }
     requires options { AreInRange options.now.limit options.now.workers }
-    ensures { (triples : List AnyTriple) → StandFor rows triples → WhyEnds triples keys.now words.0.now words.1.now options.now.limit result }
+    ensures { (triples : List AnyTriple) → StandFor rows triples → WhyEnds triples keys.now words.entry.0.now words.entry.1.now options.now.limit result }
 {
     law_rows();
     law_proof();

@@ -9,6 +9,7 @@ ghost use Rattle.gkey_cmd.specs.ChaseEnds.{MergeEnds};
 
 use crate::chased::{ChaseOptions, chase_files};
 use crate::ending::Ending;
+use chase_laws::all_valid;
 use chase_laws::laws::{law_entities, law_rows};
 use chase_ways::Finished;
 use gk_base::NoMemory;
@@ -28,6 +29,8 @@ fn merged_text(alloc: Global, names: &Names, finished: &Finished) -> Result<Vec<
     ensures { IfOk result (λ text. TellsMerged finished.now.ground names.now text.items) }
 {
     let graph = finished.ground.graph();
+    // For the proof alone: rows are of names.
+    let _names = graph.names();
     let text = merge(alloc, names, graph.rows(), &finished.labels)?;
     Ok(text.into_vec())
 }
@@ -47,7 +50,8 @@ pub fn merge_files<Rt: Threads + Wait + Sync, G: Gate>(
     law_rows();
     law_entities();
     let (names, finished) = chase_files(rt, alloc, rows, keys, options)?;
-    let _graph = finished.ground.graph();
+    // For the proof alone: patterns are valid.
+    all_valid(finished.ground.patterns());
     let text = merged_text(alloc, &names, &finished)?;
     Ok(text)
 }

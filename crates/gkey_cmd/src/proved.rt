@@ -51,7 +51,9 @@ fn proof_text(
     law_proof_read_back();
     let patterns = finished.ground.patterns();
     all_valid(patterns);
-    let _graph = finished.ground.graph();
+    // For the proof alone: what a graph and its names are.
+    let graph = finished.ground.graph();
+    let _names = graph.names();
     let _distinct = names.len();
     let key_names = key_names(alloc, keys)?;
     let proof = build_proof(alloc, &finished.journal, names, patterns, &key_names)?;

@@ -1,88 +1,101 @@
 -- What was found over the numbers is so of the triples, the keys and the words.
-use Rattle.std.proofs.Common.{map, refl, subst}
+use Rattle.std.proofs.Common.{map, length, ◌∙◌, sym, ap, subst}
+use Rattle.std.proofs.lemmas.List.{length-map}
 use Rattle.std.proofs.lemmas.Option.{slice_get_within}
 use Rattle.std.proofs.lemmas.Result.{err_from_is_err_and}
-use Rattle.gk_base.specs.declared.stop.Stop.TheVariants.{Fault}
 use Rattle.key_file.specs.KeyShape.{KeyShape}
+use Rattle.key_file.specs.Compile.{shape_of}
 use Rattle.gkey_cmd.specs.WhyParts.{TellsPair}
-use Rattle.gkey_cmd.proofs.Reports.{not_too_many, right_stop}
-use Rattle.gkey_cmd.proofs.Reasons.{two_named, words_end, are_apart, is_reason}
+use Rattle.gkey_cmd.proofs.Reports.{has_names, not_too_many, of_numbered}
+use Rattle.gkey_cmd.proofs.Reasons.{two_named, words_end, chase_ends, are_apart, is_reason}
 use Rattle.gkey_cmd.proofs.explained.explain_files.Goals as goal
 
-pub returns-in_err-a : goal.returns-in_err-a
-returns-in_err-a g c =
+pub returns-in_err-pair : goal.returns-in_err-pair
+returns-in_err-pair g c =
     let n = c.in_ok-numbered.numbered in
-    let k = c.from_residual-in_err-a in
+    let k = c.from_residual-in_err-pair in
     let p = err_from_is_err_and k.result k.ensures.1 in
     rw (p.1, p.2) (λ triples s.
     let is = c.in_ok-numbered.ensures.numbered triples s in
-    words_end triples c.args.keys.now n.graph n.names n.patterns.items is.names is.graph is.patterns c.args.first.now c.args.second.now c.args.limit c.in_err-a.field-0.0 c.in_err-a.ensures)
+    words_end triples c.args.keys.now n.graph n.names n.patterns.items is.names is.graph is.patterns c.args.words.0.now c.args.words.1.now c.args.options.now.limit c.in_err-pair.field-0.0 c.in_err-pair.ensures)
 
-pub reason-requires-clause-a : goal.reason-requires-clause-a
-reason-requires-clause-a g c κs within =
-    let x = c.in_ok-a.ensures.0 in
-    slice_get_within c.in_ok-numbered.numbered.names c.in_ok-a.a x.term x.name
+pub returns-in_err-names : goal.returns-in_err-names
+returns-in_err-names g c =
+    let n = c.in_ok-numbered.numbered in
+    let first = c.args.words.0.now in
+    let second = c.args.words.1.now in
+    let k = c.from_residual-in_err-names in
+    let p = err_from_is_err_and k.result k.ensures.1 in
+    rw (p.1, p.2) (λ triples s.
+    let is = c.in_ok-numbered.ensures.numbered triples s in
+    let two = two_named triples c.args.keys.now n.graph n.names n.patterns.items is.names is.graph is.patterns first second c.in_ok-pair.pair.0 c.in_ok-pair.pair.1 c.in_ok-pair.ensures.0 c.in_ok-pair.ensures.1 in
+    chase_ends triples c.args.keys.now n.graph n.names n.patterns.items is.names is.graph is.patterns c.law_rows.ensures.candidate first second c.args.options.now.limit c.in_err-names.field-0.0 two c.in_err-names.ensures.ends)
 
-pub reason-requires-clause-b : goal.reason-requires-clause-b
-reason-requires-clause-b g c κs within =
-    let x = c.in_ok-a.ensures.1 in
-    slice_get_within c.in_ok-numbered.numbered.names c.in_ok-a.b x.term x.name
-
-pub returns-in-Ok-Some : goal.returns-in-Ok-Some
-returns-in-Ok-Some g c =
+pub pair_text-requires-clause-named : goal.pair_text-requires-clause-named
+pair_text-requires-clause-named g c =
     let n = c.in_ok-numbered.numbered in
     let keys = c.args.keys.now in
-    let first = c.args.first.now in
-    let second = c.args.second.now in
-    let a = c.in_ok-a.a in
-    let b = c.in_ok-a.b in
-    let x = c.in_ok-a.ensures.0 in
-    let y = c.in_ok-a.ensures.1 in
-    let text = c.in-Ok-Some.text.items in
-    let told = subst (λ ks. TellsPair n.graph n.patterns.items n.names (map (λ (k : KeyShape). k.name) ks) a b text) c.keys.ensures.keys (rw c.in-Ok-Some.field-0-is at c.in-Ok-Some.ensures.told) in
+    let chased = c.in_ok-names.ensures in
+    let ground = c.in_ok-names.finished.ground in
+    let t = c.requires.few in
+    let is = c.in_ok-numbered.ensures.numbered t.0 t.1 in
+    let of = of_numbered t.0 keys n.names c.in_ok-names.names n.graph n.patterns.items ground is.names is.graph is.patterns chased.names chased.graph chased.patterns in
+    has_names t.0 keys ground.graph c.in_ok-names.names ground.patterns of.names of.graph of.patterns
+
+pub pair_text-requires-clause-one_each : goal.pair_text-requires-clause-one_each
+pair_text-requires-clause-one_each g c =
+    let n = c.in_ok-numbered.numbered in
+    let t = c.requires.few in
+    let is = c.in_ok-numbered.ensures.numbered t.0 t.1 in
+    ap length c.keys.ensures.keys ∙ sym (length-map c.args.keys.now (shape_of n.names)) ∙ sym (ap length is.patterns) ∙ sym (ap length c.in_ok-names.ensures.patterns)
+
+pub pair_text-requires-clause-a : goal.pair_text-requires-clause-a
+pair_text-requires-clause-a g c =
+    let x = c.in_ok-pair.ensures.0 in
+    rw c.in_ok-names.ensures.names (slice_get_within c.in_ok-numbered.numbered.names c.in_ok-pair.pair.0 x.term x.name)
+
+pub pair_text-requires-clause-b : goal.pair_text-requires-clause-b
+pair_text-requires-clause-b g c =
+    let x = c.in_ok-pair.ensures.1 in
+    rw c.in_ok-names.ensures.names (slice_get_within c.in_ok-numbered.numbered.names c.in_ok-pair.pair.1 x.term x.name)
+
+pub returns-in_err-text : goal.returns-in_err-text
+returns-in_err-text g c =
+    let k = c.from_residual-in_err-text in
+    let p = err_from_is_err_and k.result k.ensures.1 in
+    rw (p.1, p.2) (λ triples s. tt)
+
+pub returns-in-Some : goal.returns-in-Some
+returns-in-Some g c =
+    let n = c.in_ok-numbered.numbered in
+    let keys = c.args.keys.now in
+    let first = c.args.words.0.now in
+    let second = c.args.words.1.now in
+    let a = c.in_ok-pair.pair.0 in
+    let b = c.in_ok-pair.pair.1 in
+    let x = c.in_ok-pair.ensures.0 in
+    let y = c.in_ok-pair.ensures.1 in
+    let chased = c.in_ok-names.ensures in
+    let ground = c.in_ok-names.finished.ground in
+    let text = c.in-Some.text.items in
+    let names = c.in_ok-names.names in
+    let here = subst (λ ks. TellsPair ground.graph ground.patterns names (map (λ (k : KeyShape). k.name) ks) a b text) c.keys.ensures.keys (rw c.in-Some.is at ?) in
+    let by_names = subst (λ ns. TellsPair ground.graph ground.patterns ns (map (λ (k : KeyShape). k.name) keys) a b text) chased.names here in
+    let by_graph = subst (λ G. TellsPair G ground.patterns n.names (map (λ (k : KeyShape). k.name) keys) a b text) chased.graph by_names in
+    let told = subst (λ K. TellsPair n.graph K n.names (map (λ (k : KeyShape). k.name) keys) a b text) chased.patterns by_graph in
     λ triples s.
     let is = c.in_ok-numbered.ensures.numbered triples s in (
       two_named triples keys n.graph n.names n.patterns.items is.names is.graph is.patterns first second a b x y,
-      not_too_many triples keys n.graph n.names n.patterns.items is.names is.graph is.patterns c.law_rows.ensures.candidate c.args.limit c.in-Ok-Some.ensures.no_more,
+      not_too_many triples keys n.graph n.names n.patterns.items is.names is.graph is.patterns c.law_rows.ensures.candidate c.args.options.now.limit chased.no_more,
       is_reason triples keys n.graph n.names n.patterns.items is.names is.graph is.patterns c.law_rows.ensures.same first second a b x y c.law_rows.ensures.derivation
           c.law_proof.ensures.accepted (record { few = c.keys.ensures.few; names_differ = c.keys.ensures.names_differ; valid = c.keys.ensures.valid }) text told,
     )
 
-pub returns-in_ok-not_the_same-in-Ok-None : goal.returns-in_ok-not_the_same-in-Ok-None
-returns-in_ok-not_the_same-in-Ok-None g c =
-    let n = c.in_ok-numbered.numbered in
-    let keys = c.args.keys.now in
-    let first = c.args.first.now in
-    let second = c.args.second.now in
-    let a = c.in_ok-a.a in
-    let b = c.in_ok-a.b in
-    let x = c.in_ok-a.ensures.0 in
-    let y = c.in_ok-a.ensures.1 in
-    λ triples s.
-    let is = c.in_ok-numbered.ensures.numbered triples s in (
-      two_named triples keys n.graph n.names n.patterns.items is.names is.graph is.patterns first second a b x y,
-      not_too_many triples keys n.graph n.names n.patterns.items is.names is.graph is.patterns c.law_rows.ensures.candidate c.args.limit c.in-Ok-None.ensures.no_more,
-      (
-        are_apart triples keys n.graph n.names n.patterns.items is.names is.graph is.patterns c.law_rows.ensures.same first second a b x y
-            (rw c.in-Ok-None.field-0-is at c.in-Ok-None.ensures.apart),
-        c.in_ok-not_the_same-in-Ok-None.ensures,
-      ),
-    )
+pub returns-in_err-not_the_same-in-None : goal.returns-in_err-not_the_same-in-None
+returns-in_err-not_the_same-in-None g c =
+    let k = c.from_residual-in_err-not_the_same-in-None in
+    let p = err_from_is_err_and k.result k.ensures.1 in
+    rw (p.1, p.2) (λ triples s. tt)
 
-pub returns-in-Err-Fault : goal.returns-in-Err-Fault
-returns-in-Err-Fault g c =
-    let n = c.in_ok-numbered.numbered in
-    let keys = c.args.keys.now in
-    let first = c.args.first.now in
-    let second = c.args.second.now in
-    let a = c.in_ok-a.a in
-    let b = c.in_ok-a.b in
-    let x = c.in_ok-a.ensures.0 in
-    let y = c.in_ok-a.ensures.1 in
-    λ triples s.
-    let is = c.in_ok-numbered.ensures.numbered triples s in (
-      two_named triples keys n.graph n.names n.patterns.items is.names is.graph is.patterns first second a b x y,
-      right_stop triples keys n.graph n.names n.patterns.items is.names is.graph is.patterns c.law_rows.ensures.candidate c.args.limit (Fault c.in-Err-Fault.field-0-0)
-          (rw c.in-Err-Fault.field-0-is at c.in-Err-Fault.ensures.stop),
-      refl,
-    )
+pub returns : goal.returns
+returns g c = ?

@@ -3,6 +3,7 @@ use Rattle.std.proofs.Common.{Ok, subst}
 use Rattle.gk_io.specs.Files.{bytes_of}
 use Rattle.gkey_cmd.specs.Commands.{demo_graph_name, demo_keys_name}
 use Rattle.gkey_cmd.specs.Reading.{GraphSays, KeyFileSays}
+use Rattle.gkey_cmd.specs.ChaseEnds.{DemoEnds}
 use Rattle.gkey_cmd.proofs.Deciding.{demo_ended}
 use Rattle.gkey_cmd.proofs.order.demonstrated.Goals as goal
 
@@ -18,4 +19,5 @@ returns g c =
     demo_ended c.args.n limits triples key_list
     (subst (λ fs. GraphSays limits (bytes_of fs demo_graph_name) (Ok triples)) c.in_ok-shelf.ensures in_graph)
     (subst (λ fs. KeyFileSays limits (bytes_of fs demo_keys_name) (Ok key_list)) c.in_ok-shelf.ensures in_keys)
-    c.count_files.result (c.count_files.ensures triples read.1.stand)
+    c.count_files.result
+    (subst (λ most. DemoEnds triples key_list most c.count_files.result) c.options.ensures.limit (c.count_files.ensures triples read.1.stand))

@@ -1,7 +1,8 @@
 -- A file is not to be had, or both are read and the chase runs.
-use Rattle.std.proofs.Common.{refl}
+use Rattle.std.proofs.Common.{refl, subst}
 use Rattle.std.proofs.lemmas.Result.{err_from_is_err_and}
 use Rattle.gkey_cmd.specs.Commands.{Merging}
+use Rattle.gkey_cmd.specs.ChaseEnds.{MergeEnds}
 use Rattle.gkey_cmd.proofs.Deciding.{ends_alike, merge_ended}
 use Rattle.gkey_cmd.proofs.order.merged.Goals as goal
 
@@ -20,4 +21,5 @@ returns g c =
     let r = c.in_ok-rows.ensures.read in
     let t = r.1 in
     merge_ended g.S.Shelf a.shelf.now c.read_graph_and_keys.new.shelf a.limits.now a.graph.now a.keys.now r.0 c.in_ok-rows.read t.count
-    t.in_graph t.in_keys t.left c.merge_files.result (c.merge_files.ensures r.0 t.stand)
+    t.in_graph t.in_keys t.left c.merge_files.result
+    (subst (λ most. MergeEnds r.0 c.in_ok-rows.read most c.merge_files.result) c.options.ensures.limit (c.merge_files.ensures r.0 t.stand))
