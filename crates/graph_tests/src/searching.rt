@@ -3,10 +3,10 @@
 ghost use Rattle.std.specs.Prelude.{◌≡◌, ◌<◌, ◌^◌, All, IfOk, length};
 
 use crate::{ENOUGH, FIT};
-use chase_laws::{Pattern, Places};
+use chase_laws::{Pattern, Places, Slot};
 use fixtures::worked_graphs::{folded_values, two_pairs, woven};
 use fixtures::worked_patterns::{self, FOLDED, NAME_AND_CODE, NAME_AND_NEXT, VALUE};
-use fixtures::{PatternTable, patterns_of};
+use fixtures::{GraphTable, PatternTable, patterns_of};
 use gk_base::NoMemory;
 use paired_search::{Finding, View, plan_all, search};
 use std::alloc::Global;
@@ -364,4 +364,75 @@ fn every_edge_and_kind_is_asked_for(rt: HostRuntime) {
     let graph = woven().build(alloc).expect(&rt, FIT);
     let view = View::new(alloc, 0).expect(&rt, ENOUGH);
     assert_found(&rt, alloc, &graph, by_woven(), &view, one_row_less());
+}
+
+/// Entities of type 2 that lead to one of three wildcards, which lead to one another in a ring.
+static RING_ALONE: [PatternTable<'static>; 1] = [PatternTable {
+    slots: &[Slot::Entity(2), Slot::Any(3), Slot::Any(3), Slot::Any(3)],
+    edges: &[(0, 4, 1), (1, 5, 2), (2, 5, 3), (3, 5, 1)],
+}];
+
+fn by_ring() -> &'static [PatternTable<'static>] {
+    &RING_ALONE
+}
+
+/// 0 and 6 lead to two names of one ring, 8, 9 and 10, and 7 to a name that leads into it and to which none leads back.
+fn one_ring() -> GraphTable<'static> {
+    GraphTable {
+        names: 12,
+        rows: &[
+            [0, 1, 2],
+            [6, 1, 2],
+            [7, 1, 2],
+            [8, 1, 3],
+            [9, 1, 3],
+            [10, 1, 3],
+            [11, 1, 3],
+            [0, 4, 8],
+            [6, 4, 9],
+            [7, 4, 11],
+            [8, 5, 9],
+            [9, 5, 10],
+            [10, 5, 8],
+            [11, 5, 8],
+        ],
+        literals: &[],
+        rdf_type: Some(1),
+        alike: &[],
+    }
+}
+
+/// Both have a ring, and then the right one has none, and then the left one.
+static RINGS: [Look; 3] = [
+    Look {
+        a: 0,
+        b: 6,
+        wanted: Some(Wanted {
+            key: 0,
+            left: &[0, 8, 9, 10],
+            right: &[6, 9, 10, 8],
+        }),
+    },
+    Look {
+        a: 0,
+        b: 7,
+        wanted: None,
+    },
+    Look {
+        a: 7,
+        b: 0,
+        wanted: None,
+    },
+];
+
+fn rings() -> &'static [Look] {
+    &RINGS
+}
+
+#[test]
+fn each_side_needs_its_wildcards(rt: HostRuntime) {
+    let alloc = rt.alloc();
+    let graph = one_ring().build(alloc).expect(&rt, FIT);
+    let view = View::new(alloc, 0).expect(&rt, ENOUGH);
+    assert_found(&rt, alloc, &graph, by_ring(), &view, rings());
 }

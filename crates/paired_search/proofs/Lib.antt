@@ -1,5 +1,6 @@
 mod BlockLaws
 pub mod CallerLemmas
+mod CompleteLaws
 mod Keys
 mod Labels
 mod Moves

@@ -1,26 +1,21 @@
 -- Two lists side by side.
 use Rattle.std.proofs.Common.{List, [], ◌∷◌, ◌++◌, ℕ, Bool, All, slice_index, get_or, take, length, ◌≡◌, ◌<◌, ◌≤◌, ◌+◌, inl, inr, refl, sym, ◌∙◌, ap, subst, arith, length-append}
-use Rattle.std.proofs.lemmas.List.{get_or-take, length-take-le, take_all, take-take, take-append-le}
-use Rattle.std.proofs.lemmas.List.{take_more}
-use Rattle.std.proofs.lemmas.Option.{slice_get_within}
+use Rattle.std.proofs.lemmas.List.{get_or-take, length-take-le}
 use Rattle.chase_laws.specs.declared.pattern.Slot.TheVariants.{Entity}
 use Rattle.chase_laws.specs.declared.pattern.Edge.{Edge}
 use Rattle.chase_laws.specs.Shape.{Shape}
 use Rattle.chase_laws.specs.Graph.{NumberedGraph}
 use Rattle.chase_laws.specs.Valuation.{IsValuation, Coincide, IsMatch}
-use Rattle.paired_search.specs.Part.{IsPair, IsReady, EdgeHolds, AreCompletedBy, AreTwins}
+use Rattle.paired_search.specs.Part.{IsPair, EdgeHolds, AreCompletedBy, AreTwins, IsBare, AreBareFrom, IsCompletedBy}
 use Rattle.key_plan.specs.Route.{IsBlock}
 use Rattle.paired_search.proofs.BlockLaws.{block_part}
 use Rattle.chase_laws.specs.declared.pattern.Slot.{Slot}
 use Rattle.chase_laws.specs.declared.pattern.Slot.TheVariants as slot
 use Rattle.chase_laws.specs.Valuation.{FitsSlot, AgreeAt}
-use Rattle.std.proofs.Common.{Contains, Some, slice_get, ◌⊎◌}
-use Rattle.std.proofs.lemmas.List.Elements.{Contains-push_cases}
-use Rattle.paired_search.proofs.PartLaws.{part_front, part_whole, last_at}
-
--- the next front
-front_next : (v p : List ℕ) → length p < length v → take (length p) v ≡ p → take (length p + 1) v ≡ p ++ slice_index v (length p) ∷ []
-front_next v p h e = take_more v (length p) 0 h ∙ ap (λ q. q ++ slice_index v (length p) ∷ []) e
+use Rattle.std.proofs.Common.{Contains, Some, slice_get}
+use Rattle.std.proofs.lemmas.Bool.{cases_lt}
+use Rattle.paired_search.proofs.PartLaws.{part_front, last_at, front_next, contains_more}
+use Rattle.paired_search.proofs.CompleteLaws.{completes_before as begins_before}
 
 -- what two lists have at one more place
 pub record Next (G : NumberedGraph) (Q : Shape) (same : ℕ → ℕ → Bool) (slot : Slot) (block : List Edge) (p q : List ℕ) (m n : ℕ) : Type 0 where
@@ -31,10 +26,6 @@ pub record Next (G : NumberedGraph) (Q : Shape) (same : ℕ → ℕ → Bool) (s
   pub twins : AreTwins slot m n
   pub fit_left : FitsSlot G slot m
   pub fit_right : FitsSlot G slot n
-
--- one element more
-pub contains_more : (xs : List ℕ) (i x : ℕ) → i < length xs → Contains (take (i + 1) xs) x → Contains (take i xs) x ⊎ (get_or xs i 0 ≡ x)
-contains_more xs i x h c = Contains-push_cases (take i xs) (get_or xs i 0) x (rw (take_more xs i 0 h) at c)
 
 module _ (G : NumberedGraph) (Q : Shape) (same : ℕ → ℕ → Bool) where
   -- fronts of two lists that fit and coincide
@@ -68,23 +59,36 @@ module _ (G : NumberedGraph) (Q : Shape) (same : ℕ → ℕ → Bool) where
     left = c.left;
     right = c.right;
     coincide = c.coincide;
-    begins_left = shorter v p m c.begins_left;
-    begins_right = shorter w q n c.begins_right;
+    begins_left = (begins_before G Q p v m (record { valuation = c.left; begins = c.begins_left })).begins;
+    begins_right = (begins_before G Q q w n (record { valuation = c.right; begins = c.begins_right })).begins;
   }
-    where
-      shorter : (v p : List ℕ) (m : ℕ) → take (length (p ++ m ∷ [])) v ≡ p ++ m ∷ [] → take (length p) v ≡ p
-      shorter v p m e = sym (take-take (length p) (length (p ++ m ∷ [])) v (omega (arith, length-append p (m ∷ [])))) ∙ ap (take (length p)) e ∙ take-append-le (length p) p (m ∷ []) (omega arith) ∙ take_all (length p) p (omega arith)
 
-  pub completes_whole : (p q : List ℕ) → IsReady Q → IsPair G Q same p q → length Q.slots ≤ length p → AreCompletedBy G Q same p q p q
-  completes_whole p q ok pair long =
-      let few = pair.left.few in
-      record {
-        left = part_whole G Q p ok pair.left (omega arith);
-        right = part_whole G Q q ok pair.right (let e = pair.as_long in omega arith);
-        coincide = λ s slot at. pair.agree s slot (let h = slice_get_within Q.slots s slot at in omega arith) at;
-        begins_left = take_all (length p) p (omega arith);
-        begins_right = take_all (length q) q (omega arith);
-      }
+  agree_bare : (s : ℕ) (a : Slot) (m n : ℕ) → IsBare a → AgreeAt G same s a m n
+  agree_bare s (slot.Entity t) m n h = absurd h
+  agree_bare s (slot.Any t) m n h = tt
+  agree_bare s slot.Value m n h = absurd h
+  agree_bare s slot.Folded m n h = absurd h
+  agree_bare s (slot.Fixed c) m n h = tt
+
+  -- a number of a list that a valuation begins with
+  begun_at : (p v : List ℕ) (s : ℕ) → s < length p → take (length p) v ≡ p → slice_index p s ≡ slice_index v s
+  begun_at p v s in_s e = sym (ap (λ (x : List ℕ). slice_index x s) e) ∙ get_or-take (length p) v s 0 in_s
+
+  -- where all slots behind two lists are bare, each is completed by itself
+  pub completes_both : (p q v w : List ℕ) → IsPair G Q same p q → AreBareFrom Q (length p) → IsCompletedBy G Q p v → IsCompletedBy G Q q w → AreCompletedBy G Q same p q v w
+  completes_both p q v w pair bare left right = record {
+    left = left.valuation;
+    right = right.valuation;
+    coincide = λ s slot at. elim (cases_lt s (length p)) [
+      | inl in_s ↦
+          (let as_long = pair.as_long in
+          subst (λ m. AgreeAt G same s slot m (slice_index w s)) (begun_at p v s in_s left.begins)
+          (subst (λ n. AgreeAt G same s slot (slice_index p s) n) (begun_at q w s (omega arith) right.begins) (pair.agree s slot in_s at)))
+      | inr out ↦ agree_bare s slot (slice_index v s) (slice_index w s) (bare s slot out at)
+    ];
+    begins_left = left.begins;
+    begins_right = right.begins;
+  }
 
   twins_of : (s : ℕ) (a : Slot) (m n : ℕ) → AgreeAt G same s a m n → AreTwins a m n
   twins_of s (slot.Entity t) m n h = tt

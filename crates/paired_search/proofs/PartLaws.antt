@@ -1,7 +1,8 @@
 -- Lists that fit so far, and whole ones.
-use Rattle.std.proofs.Common.{List, [], ◌∷◌, ◌++◌, ℕ, Some, All, slice_get, slice_index, get_or, take, length, ◌≡◌, ◌≢◌, ◌<◌, ◌≤◌, ◌+◌, ◌-◌, inl, inr, refl, sym, ◌∙◌, ap, subst, arith, length-append}
+use Rattle.std.proofs.Common.{List, [], ◌∷◌, ◌++◌, ℕ, Some, All, Contains, slice_get, slice_index, get_or, take, length, ◌≡◌, ◌≢◌, ◌<◌, ◌≤◌, ◌+◌, ◌-◌, ◌⊎◌, inl, inr, refl, sym, ◌∙◌, ap, subst, arith, length-append}
 use Rattle.std.proofs.lemmas.Bool.{cases_eq}
-use Rattle.std.proofs.lemmas.List.{get_or-take, get_or_append_left, get_or_at, get_or_default, length-take-le, take_all, take-append-le}
+use Rattle.std.proofs.lemmas.List.{get_or-take, get_or_append_left, get_or_at, get_or_default, length-take-le, take_all, take-append-le, take_more}
+use Rattle.std.proofs.lemmas.List.Elements.{Contains-push_cases}
 use Rattle.std.proofs.lemmas.Option.{slice_get_within}
 use Rattle.chase_laws.specs.declared.pattern.Slot.{Slot}
 use Rattle.chase_laws.specs.declared.pattern.Edge.{Edge}
@@ -77,3 +78,11 @@ part_whole G Q p ok part e = record {
   kinds = λ s slot at. part.kinds s slot (let h = slice_get_within Q.slots s slot at in omega arith) at;
   edges = λ i d h. part.edges i d h (omega (arith, (ok.ends i d h).0)) (omega (arith, (ok.ends i d h).1));
 }
+
+-- the next front
+pub front_next : (v p : List ℕ) → length p < length v → take (length p) v ≡ p → take (length p + 1) v ≡ p ++ slice_index v (length p) ∷ []
+front_next v p h e = take_more v (length p) 0 h ∙ ap (λ q. q ++ slice_index v (length p) ∷ []) e
+
+-- one element more
+pub contains_more : (xs : List ℕ) (i x : ℕ) → i < length xs → Contains (take (i + 1) xs) x → Contains (take i xs) x ⊎ (get_or xs i 0 ≡ x)
+contains_more xs i x h c = Contains-push_cases (take i xs) (get_or xs i 0) x (rw (take_more xs i 0 h) at c)

@@ -33,6 +33,23 @@ pub record AreCompletedBy (G : NumberedGraph) (Q : Shape) (same : ℕ → ℕ �
   pub begins_left : take (length p) v ≡ p
   pub begins_right : take (length q) w ≡ q
 
+-- the list p is completed by the valuation v, which begins with it
+pub record IsCompletedBy (G : NumberedGraph) (Q : Shape) (p v : List ℕ) : Type 0 where
+  pub valuation : IsValuation G Q v
+  pub begins : take (length p) v ≡ p
+
+-- a slot at which nothing is asked of two numbers: a wildcard or a constant
+abbrev pub IsBare : Slot → Type 0
+IsBare (Entity t) = ⊥
+IsBare (AnyOf t) = ⊤
+IsBare Value = ⊥
+IsBare Folded = ⊥
+IsBare (Fixed c) = ⊤
+
+-- the slots from a place on are bare
+abbrev pub AreBareFrom : Shape → ℕ → Type 0
+AreBareFrom Q place = (s : ℕ) (slot : Slot) → place ≤ s → slice_get Q.slots s ≡ Some slot → IsBare slot
+
 -- at a value variable both numbers are one
 abbrev pub AreTwins : Slot → ℕ → ℕ → Type 0
 AreTwins Value m n = m ≡ n

@@ -6,6 +6,7 @@ ghost use Rattle.paired_search.specs.Part.{HoldsAt, IsPart, IsPair, IsReady, Are
 
 use crate::Sameness;
 use crate::choices::{choices, constant_of, partners, sides};
+use crate::complete::{are_bare, complete_each};
 use crate::fits::{agree, goes_on};
 use chase_laws::{Edge, Places, Slot};
 use key_plan::Plan;
@@ -55,8 +56,8 @@ pub fn extend<S: Sameness>(
     ensures kept { IsFalse result → (left.new ≡ left.old) × (right.new ≡ right.old) }
 {
     let s = left.len();
-    if s >= plan.len() {
-        return true;
+    if are_bare(plan, s) {
+        return complete_each(graph, plan, left, right);
     }
     let slot = plan.slot(s);
     let block = plan.block(s);

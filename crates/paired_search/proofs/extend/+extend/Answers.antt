@@ -6,9 +6,9 @@ use Rattle.std.proofs.lemmas.List.Elements.{Contains-get_or}
 use Rattle.std.proofs.Common.{Some, slice_get}
 use Rattle.key_plan.specs.Route.{IsBlock}
 use Rattle.chase_laws.specs.Valuation.{FitsSlot, AgreeAt}
-use Rattle.paired_search.specs.Part.{HoldsAt, IsPart, AreCompletedBy}
+use Rattle.paired_search.specs.Part.{HoldsAt, IsPart, AreCompletedBy, AreBareFrom}
 use Rattle.paired_search.proofs.PartLaws.{popped}
-use Rattle.paired_search.proofs.PairLaws.{completes_before, next, none_more, none_left}
+use Rattle.paired_search.proofs.PairLaws.{completes_before, completes_both, next, none_more, none_left}
 use Rattle.paired_search.proofs.extend.+extend.Goals as goal
 use Rattle.paired_search.proofs.extend.+extend.Goals.{then-joins+else-extend, else-joins}
 use Rattle.paired_search.proofs.extend.+extend.Goals.{then-not-is_empty+then-goes_on+else-loop-n-test, else-not-is_empty, else-not-is_empty-via-then-not-is_empty+else-goes_on, else-not-is_empty-via-else-not-is_empty}
@@ -32,6 +32,12 @@ joins-requires-clause-known g t c =
     let here = c.partners-beside.ensures.only n (Contains-get_or beside c.loop-n.n-index 0 c.loop-n-test.true) in
     let both = (c.sides.ensures.exact m n here.1).0 (Contains-get_or tried c.loop-m.m-index 0 c.loop-m-test.true, here.0) in
     subst (λ (x : List ℕ). HoldsAt c.args.graph.now x c.block-block.result.now c.choices-rights.result.place n) (sym c.loop-n.invariant.right) (c.choices-rights.ensures.holds n both.1)
+
+pub returns-then-are_bare-clause-found : goal.returns-then-are_bare-clause-found
+returns-then-are_bare-clause-found g t c = λ yes.
+    let P = c.args.plan.now.shape in
+    let bare = subst (AreBareFrom P) c.len-s.ensures.length (c.are_bare.ensures.bare c.if-are_bare.true) in
+    completes_both c.args.graph.now P (g.S.Sameness.are_same c.args.view.now) c.args.left.now c.args.right.now _ _ c.requires.pair bare (c.complete_each.ensures.found_left yes) (c.complete_each.ensures.found_right yes)
 
 pub returns-then-extend-clause-found : goal.returns-then-extend-clause-found
 returns-then-extend-clause-found g t c = λ _.
@@ -59,7 +65,7 @@ loop-n-preserved g t c =
     let q = c.args.right.now in
     let m = get_or c.sides.result.0.now c.loop-m.m-index 0 in
     let n = get_or c.partners-beside.result.now c.loop-n.n-index 0 in
-    let short : length p < length P.slots = omega (arith, c.if-s-len.false, c.len.ensures, c.len-s.ensures.length) in
+    let short : length p < length P.slots = omega (arith, c.are_bare.ensures.some c.if-are_bare.false, c.len-s.ensures.length) in
     let at_left : c.loop-n.left ++ m ∷ [] ≡ p ++ m ∷ [] = ap (λ (x : List ℕ). x ++ m ∷ []) c.loop-n.invariant.left in
     let at_right : c.loop-n.right ++ n ∷ [] ≡ q ++ n ∷ [] = ap (λ (x : List ℕ). x ++ n ∷ []) c.loop-n.invariant.right in
     record {
@@ -93,7 +99,7 @@ loop-m-preserved g t c =
     let beside = c.partners-beside.result.now in
     let m = get_or tried c.loop-m.m-index 0 in
     let here = c.len-s.ensures.length in
-    let short : length p < length P.slots = omega (arith, c.if-s-len.false, c.len.ensures, c.len-s.ensures.length) in
+    let short : length p < length P.slots = omega (arith, c.are_bare.ensures.some c.if-are_bare.false, c.len-s.ensures.length) in
     let more = λ (v w : List ℕ) (d : AreCompletedBy G P same p q v w). next G P same slot c.block-block.result.now p q v w c.requires.pair.as_long short (subst (λ k. slice_get P.slots k ≡ Some slot) here c.slot-slot.ensures) (subst (λ k. IsBlock P k c.block-block.result.now) here c.block-block.ensures) d in
     record {
       none = none_left G P same p q c.len-s.result c.loop-m.m-index tried c.loop-m-test.true
@@ -134,7 +140,7 @@ returns-clause-none g t c = λ _ v w d.
     let q = c.args.right.now in
     let tried = c.sides.result.0.now in
     let here = c.len-s.ensures.length in
-    let short : length p < length P.slots = omega (arith, c.if-s-len.false, c.len.ensures, c.len-s.ensures.length) in
+    let short : length p < length P.slots = omega (arith, c.are_bare.ensures.some c.if-are_bare.false, c.len-s.ensures.length) in
     let x = next G P same c.slot-slot.result c.block-block.result.now p q v w c.requires.pair.as_long short (subst (λ k. slice_get P.slots k ≡ Some c.slot-slot.result) here c.slot-slot.ensures) (subst (λ k. IsBlock P k c.block-block.result.now) here c.block-block.ensures) d in
     let sides = (c.sides.ensures.exact (slice_index v (length p)) (slice_index w (length p)) x.twins).1 (c.choices-lefts.ensures.covers (slice_index v (length p)) x.fit_left x.left, c.choices-rights.ensures.covers (slice_index w (length p)) x.fit_right x.right) in
     c.loop-m.invariant.none v w d (rw (take_all c.loop-m.m-index tried c.loop-m-test.false) (subst (λ k. Contains tried (slice_index v k)) (sym here) sides.0))
