@@ -8,9 +8,11 @@ use Rattle.chase_laws.specs.declared.pattern.Slot.{Slot}
 use Rattle.chase_laws.specs.declared.pattern.Slot.TheVariants.{Entity, Any, Value, Folded, Fixed}
 use Rattle.chase_laws.specs.declared.pattern.Edge.{Edge}
 use Rattle.chase_laws.specs.Shape.{Shape}
-use Rattle.chase_laws.specs.Graph.{NumberedGraph, HasRow}
+use Rattle.chase_laws.specs.Graph.{NumberedGraph, HasRow, IsLiteral}
+use Rattle.chase_laws.specs.Valuation.{FitsSlot}
 use Rattle.chase_laws.specs.Pairing.{GoTogether, PairedHere, ArePaired}
-use Rattle.pair_filter.specs.Along.{ArePairedAlong, ArePairedExcept, MaySkip, HavePaired, HaveCommon, IsValueEdge}
+use Rattle.pair_filter.specs.Along.{ArePairedAlong, ArePairedExcept, MaySkip, HavePaired, HaveCommon, IsValueEdge, IsLeaf}
+use Rattle.pair_filter.proofs.Idle.{some_same}
 
 -- the place that an edge is skipped at
 same_place : (k j : ℕ) → Some k ≡ Some j → k ≡ j
@@ -172,6 +174,18 @@ module _ (G : NumberedGraph) (Q : Shape) where
       in_right = subst (λ n. Contains ws n) (sym (one h.left h.right h.paired)) h.in_right;
       paired = left_alone skipped d s h.left h.right h.paired;
     }),
+  )
+
+  -- where no edge is asked, at a value variable a literal of both lists is all that is asked
+  pub shared_literal : (skipped : Option ℕ) (d s : ℕ) (us ws : List ℕ) → slice_get Q.slots s ≡ Some Value → IsLeaf Q skipped d s
+      → ((l : ℕ) × Contains us l × Contains ws l × IsLiteral G l) ↔ HavePaired G Q skipped d s us ws
+  shared_literal skipped d s us ws at leaf = (
+    (λ h.
+        let here : PairedHere G Q s h.0 h.0 = λ slot there. (let same = some_same Value slot (sym at ∙ there) in subst (λ (x : Slot). FitsSlot G x h.0 × FitsSlot G x h.0 × GoTogether G x h.0 h.0) same (h.3, h.3, refl)) in
+        record { left = h.0; right = h.0; in_left = h.1; in_right = h.2; paired = leaf G h.0 h.0 here }),
+    (λ h.
+        let x = h.paired.here Value at in
+        (h.left, h.in_left, subst (λ n. Contains ws n) (sym x.2) h.in_right, x.0)),
   )
 
   -- two that are paired share a value along an edge to a value variable that is not skipped

@@ -9,6 +9,7 @@
 //! - `runs`: what is kept of a run
 //! - `keys`: which keys may identify two names
 //! - `paired`: whether a key pairs two names
+//! - `leaf`: the quick way where no edge leads on
 //! - `here`: whether two names can go together at a slot
 //! - `parts`: the parts of a pattern
 #![tactic(auto)]
@@ -17,6 +18,7 @@ mod dealing;
 mod here;
 mod keeping;
 mod keys;
+mod leaf;
 mod paired;
 mod parts;
 mod runs;

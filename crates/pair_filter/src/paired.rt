@@ -7,6 +7,7 @@ ghost use Rattle.chase_laws.specs.Pairing.{PairedHere};
 ghost use Rattle.pair_filter.specs.Along.{ArePairedExcept, ArePairedForth, ArePairedBack, HavePaired, HasPartner, HasAlone, HaveCommon, HaveCommonPartner, IsValueEdge};
 
 use crate::here::are_here;
+use crate::leaf::{is_leaf, share_literal};
 use crate::parts::{edge_at, edge_count, is_skipped, skipped_from, slot_at};
 use chase_laws::{Edge, Pattern, Slot};
 use typed_graph::Graph;
@@ -139,12 +140,35 @@ fn have_paired(
     ensures { IsTrue result ↔ HavePaired graph.now pattern.now skipped depth s us.now ws.now }
 {
     match slot_at(pattern, s) {
-        Slot::Value => have_common(graph, pattern, skipped, depth, s, us, ws),
+        Slot::Value => have_value(graph, pattern, skipped, depth, s, us, ws),
         Slot::Fixed(_) => have_common(graph, pattern, skipped, depth, s, us, ws),
         Slot::Entity(_) | Slot::Any(_) | Slot::Folded => {
             have_any_paired(graph, pattern, skipped, depth, s, us, ws)
         }
     }
+}
+
+/// Whether there are such two at a value variable.
+#[cycle(paired)]
+fn have_value(
+    graph: &Graph,
+    pattern: &Pattern,
+    skipped: Option<usize>,
+    depth: u8,
+    s: u8,
+    us: &[u32],
+    ws: &[u32],
+) -> bool
+    requires slot { s < length pattern.now.slots }
+    requires value { slice_get pattern.now.slots s ≡ Some Value }
+    requires left { IsStrictlyIncreasing us.now }
+    requires right { IsStrictlyIncreasing ws.now }
+    ensures { IsTrue result ↔ HavePaired graph.now pattern.now skipped depth s us.now ws.now }
+{
+    if is_leaf(pattern, skipped, depth, s) {
+        return share_literal(graph, us, ws);
+    }
+    have_common(graph, pattern, skipped, depth, s, us, ws)
 }
 
 /// Whether a name that both lists have is paired with itself. The shorter list is gone through, the longer one searched.

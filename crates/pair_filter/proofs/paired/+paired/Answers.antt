@@ -1,9 +1,9 @@
 use Rattle.std.proofs.Common.{List, ℕ, Some, slice_get, ◌-◌, ◌≡◌, ◌∙◌, inl, inr, ap, arith, true≢false, sym, subst, refl, take_all}
 use Rattle.chase_laws.specs.declared.pattern.Slot.{Slot}
-use Rattle.chase_laws.specs.declared.pattern.Slot.TheVariants.{Value, Fixed}
+use Rattle.chase_laws.specs.declared.pattern.Slot.TheVariants.{Fixed}
 use Rattle.chase_laws.specs.Graph.{HasRow}
 use Rattle.pair_filter.specs.Along.{ArePairedExcept, HavePaired, HasPartner, HasAlone, HaveCommon, HaveCommonPartner}
-use Rattle.pair_filter.proofs.Steps.{left_alone, right_alone, paired_at_once, paired_by_edges, not_along, led_forth, led_back, have_paired_rows, same_value, same_constant, common_name, shares_value, contains_more}
+use Rattle.pair_filter.proofs.Steps.{left_alone, right_alone, paired_at_once, paired_by_edges, not_along, shared_literal, led_forth, led_back, have_paired_rows, same_value, same_constant, common_name, shares_value, contains_more}
 use Rattle.pair_filter.proofs.paired.+paired.Goals as goal
 
 pub are_paired_forth-returns : goal.are_paired_forth-returns
@@ -102,11 +102,16 @@ have_any_paired-loop-u-preserved-then-not-are_paired t c = λ h.
       | inr same ↦ true≢false (sym (c.are_paired.ensures.1 (subst P (sym same) (left_alone c.args.graph.now c.args.pattern.now c.args.skipped c.args.depth c.args.s h.left h.right h.paired))) ∙ c.if-not-are_paired.true)
     ]
 
-pub have_paired-returns-in-Value : goal.have_paired-returns-in-Value
-have_paired-returns-in-Value t c =
-    let Q = c.args.pattern.now in
-    let at : slice_get Q.slots c.args.s ≡ Some Value = c.slot_at.ensures ∙ ap (λ (x : Slot). Some x) c.in-Value.is in
-    let common = common_name c.args.graph.now Q c.args.skipped c.args.depth c.args.s c.args.us.now c.args.ws.now (λ u w. same_value c.args.graph.now Q c.args.skipped c.args.depth c.args.s u w at) in (
+pub have_value-returns-then-is_leaf : goal.have_value-returns-then-is_leaf
+have_value-returns-then-is_leaf t c =
+    let shared = shared_literal c.args.graph.now c.args.pattern.now c.args.skipped c.args.depth c.args.s c.args.us.now c.args.ws.now c.requires.value (c.is_leaf.ensures c.if-is_leaf.true) in (
+      (λ yes. shared.0 (c.share_literal.ensures.0 yes)),
+      (λ h. c.share_literal.ensures.1 (shared.1 h)),
+    )
+
+pub have_value-returns : goal.have_value-returns
+have_value-returns t c =
+    let common = common_name c.args.graph.now c.args.pattern.now c.args.skipped c.args.depth c.args.s c.args.us.now c.args.ws.now (λ u w. same_value c.args.graph.now c.args.pattern.now c.args.skipped c.args.depth c.args.s u w c.requires.value) in (
       (λ yes. common.0 (c.have_common.ensures.0 yes)),
       (λ h. c.have_common.ensures.1 (common.1 h)),
     )
@@ -117,8 +122,8 @@ have_paired-returns-in-Fixed t c =
     let k = c.in-Fixed.field-0 in
     let at : slice_get Q.slots c.args.s ≡ Some (Fixed k) = c.slot_at.ensures ∙ ap (λ (x : Slot). Some x) c.in-Fixed.is in
     let common = common_name c.args.graph.now Q c.args.skipped c.args.depth c.args.s c.args.us.now c.args.ws.now (λ u w. same_constant c.args.graph.now Q c.args.skipped c.args.depth c.args.s u w k at) in (
-      (λ yes. common.0 (c.have_common-in-Fixed.ensures.0 yes)),
-      (λ h. c.have_common-in-Fixed.ensures.1 (common.1 h)),
+      (λ yes. common.0 (c.have_common.ensures.0 yes)),
+      (λ h. c.have_common.ensures.1 (common.1 h)),
     )
 
 pub has_partner_by-loop-l-preserved-then-holders-ws : goal.has_partner_by-loop-l-preserved-then-holders-ws

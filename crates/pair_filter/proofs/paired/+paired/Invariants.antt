@@ -11,13 +11,16 @@ abbrev pub decreases-are_paired_along : goal.decreases-are_paired_along
 decreases-are_paired_along l = 9 * l.depth
 
 abbrev pub decreases-are_paired_forth : goal.decreases-are_paired_forth
-decreases-are_paired_forth l = 9 * l.depth + 7
+decreases-are_paired_forth l = 9 * l.depth + 8
 
 abbrev pub decreases-are_paired_back : goal.decreases-are_paired_back
-decreases-are_paired_back l = 9 * l.depth + 7
+decreases-are_paired_back l = 9 * l.depth + 8
 
 abbrev pub decreases-have_paired : goal.decreases-have_paired
-decreases-have_paired l = 9 * l.depth + 6
+decreases-have_paired l = 9 * l.depth + 7
+
+abbrev pub decreases-have_value : goal.decreases-have_value
+decreases-have_value l = 9 * l.depth + 6
 
 abbrev pub decreases-have_any_paired : goal.decreases-have_any_paired
 decreases-have_any_paired l = 9 * l.depth + 5
