@@ -1,21 +1,15 @@
 -- Runs of pairs that are dealt to threads: what is kept of each.
-use Rattle.std.proofs.Common.{List, [], ◌∷◌, ◌++◌, ℕ, zero, suc, Some, slice_get, get_or, take, drop, length, ◌≡◌, ◌+◌, ◌*◌, ◌/◌, ◌%◌, ◌<◌, ◌≤◌, ◌⊎◌, ◌∙◌, Vec, Global, inl, inr, arith, refl, sym, ap, subst, length-append}
+use Rattle.std.proofs.Common.{List, [], ◌∷◌, ◌++◌, ℕ, zero, suc, Some, slice_get, get_or, take, length, ◌≡◌, ◌+◌, ◌*◌, ◌/◌, ◌%◌, ◌<◌, ◌≤◌, ◌⊎◌, ◌∙◌, Vec, Global, inl, inr, arith, refl, sym, ap, subst, length-append}
 use Rattle.std.proofs.Math.Nat.{suc-mul, mul-le-mul_right, mod-add-div', mod-lt}
 use Rattle.std.proofs.Math.Seq.{take-add}
-use Rattle.std.proofs.lemmas.List.{take_all}
 use Rattle.std.proofs.lemmas.Option.{slice_get-get_or}
-use Rattle.std.specs.List.{AllZip, range_with_len}
-use Rattle.rayon.proofs.ListFacts.{AllZip-append}
 use Rattle.chase_laws.specs.Graph.{NumberedGraph}
 use Rattle.chase_laws.specs.Pairing.{ArePairedBy}
 use Rattle.chase_laws.specs.Shape.{Shape}
-use Rattle.paired_search.specs.declared.key_range.KeyRange.{KeyRange}
 use Rattle.pair_filter.specs.declared.keeping.KeptPairs.{KeptPairs}
-use Rattle.pair_filter.specs.Keys.{AreKeysOf}
+use Rattle.pair_filter.specs.Depth.{filter_depth}
 use Rattle.pair_filter.specs.Selection.{IsSelection}
 use Rattle.pair_filter.specs.Runs.{run_of, IsKept, AreKeptOf}
-use Rattle.pair_filter.proofs.Idle.{some_same}
-use Rattle.pair_filter.proofs.Asked.{pushed_at}
 use Rattle.pair_filter.proofs.Selections.{selection_append}
 
 -- a list that is long enough has an element at a place
@@ -23,6 +17,16 @@ there : {X : Type 0} (xs : List X) (k : ℕ) → k < length xs → (x : X) × (s
 there [] k lt = absurd (omega arith)
 there (x ∷ xs) zero lt = (x, refl)
 there (x ∷ xs) (suc k) lt = there xs k (omega arith)
+
+-- an element of a list with one more is one of the list, or that one, at the end
+pushed_at : {X : Type 0} (xs : List X) (y : X) (k : ℕ) (x : X) → slice_get (xs ++ y ∷ []) k ≡ Some x → (slice_get xs k ≡ Some x) ⊎ ((k ≡ length xs) × (y ≡ x))
+pushed_at [] y zero x h = inr (refl, cc)
+pushed_at [] y (suc k) x h = absurd (cc)
+pushed_at (z ∷ zs) y zero x h = inl h
+pushed_at (z ∷ zs) y (suc k) x h = elim (pushed_at zs y k x h) [
+  | inl old ↦ inl old
+  | inr new ↦ inr (ap suc new.0, new.1)
+]
 
 -- the same times as many is no more
 turns_before : (place first threads turn count : ℕ) → place ≡ first + count * threads → first + turn * threads < place → turn < count
@@ -83,9 +87,9 @@ module _ (G : NumberedGraph) (K : List Shape) (xs : List (ℕ × ℕ)) where
       of_run threads run list.items lt (all (run % threads) list at)
 
   -- what is kept of the runs before, and of one more
-  pub selection_run : (run : ℕ) (ys zs : List (ℕ × ℕ)) → IsSelection (λ x. ArePairedBy G K 2 x.0 x.1) (take (run * 1024) xs) ys → IsSelection (λ x. ArePairedBy G K 2 x.0 x.1) (run_of xs run) zs → IsSelection (λ x. ArePairedBy G K 2 x.0 x.1) (take ((run + 1) * 1024) xs) (ys ++ zs)
+  pub selection_run : (run : ℕ) (ys zs : List (ℕ × ℕ)) → IsSelection (λ x. ArePairedBy G K filter_depth x.0 x.1) (take (run * 1024) xs) ys → IsSelection (λ x. ArePairedBy G K filter_depth x.0 x.1) (run_of xs run) zs → IsSelection (λ x. ArePairedBy G K filter_depth x.0 x.1) (take ((run + 1) * 1024) xs) (ys ++ zs)
   selection_run run ys zs before one =
-      let P : ℕ × ℕ → Type 0 = λ x. ArePairedBy G K 2 x.0 x.1 in
+      let P : ℕ × ℕ → Type 0 = λ x. ArePairedBy G K filter_depth x.0 x.1 in
       let more : (run + 1) * 1024 ≡ run * 1024 + 1024 = omega arith in
       subst (λ l. IsSelection P l (ys ++ zs)) (sym (ap (λ n. take n xs) more ∙ take-add (run * 1024) 1024 xs))
       (selection_append P (take (run * 1024) xs) (run_of xs run) ys zs before one)

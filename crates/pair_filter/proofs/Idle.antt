@@ -1,6 +1,7 @@
--- A key with a match pairs its ends to depth 2, so a key that does not is idle.
-use Rattle.std.proofs.Common.{List, ℕ, zero, suc, Bool, Some, All, slice_get, slice_index, get_or, ◌≡◌, ◌<◌, ◌+◌, ◌≤◌, inl, inr, sym, ◌∙◌, ap, subst, arith}
+-- A key with a match pairs its ends to every depth, so a key that does not is idle.
+use Rattle.std.proofs.Common.{List, ℕ, zero, suc, Bool, Some, All, slice_get, slice_index, get_or, length, ◌≡◌, ◌<◌, ◌+◌, ◌≤◌, inl, inr, sym, ◌∙◌, ap, subst, arith}
 use Rattle.std.proofs.lemmas.Bool.{cases_eq}
+use Rattle.std.proofs.lemmas.Option.{get_or_from_slice_get, slice_get-get_or}
 use Rattle.chase_laws.specs.declared.pattern.Slot.{Slot}
 use Rattle.chase_laws.specs.declared.pattern.Slot.TheVariants.{Entity, Any as AnyOf, Value, Folded, Fixed}
 use Rattle.chase_laws.specs.declared.pattern.Edge.{Edge}
@@ -8,8 +9,8 @@ use Rattle.chase_laws.specs.Shape.{Shape}
 use Rattle.chase_laws.specs.Graph.{NumberedGraph, HasRow}
 use Rattle.chase_laws.specs.Valuation.{FitsSlot, AgreeAt, IsMatch}
 use Rattle.chase_laws.specs.Pairing.{GoTogether, PairedHere, ArePaired}
-use Rattle.pair_filter.specs.Keys.{ArePairedUnder}
-use Rattle.pair_filter.specs.Telling.{IsRuledOut}
+use Rattle.pair_filter.specs.Depth.{filter_depth}
+use Rattle.pair_filter.specs.Keys.{ArePairedUnder, IsRuledOut}
 
 pub some_same : {A : Type 0} (x y : A) → Some x ≡ Some y → x ≡ y
 some_same x y e = cc
@@ -61,7 +62,7 @@ module _ (G : NumberedGraph) (Q : Shape) (same : ℕ → ℕ → Bool) (a b : �
   match_under t first = record {
     left = (Entity t, first, subst (FitsSlot G (Entity t)) x.at_a (x.left.kinds 0 (Entity t) first));
     right = (Entity t, first, subst (FitsSlot G (Entity t)) x.at_b (x.right.kinds 0 (Entity t) first));
-    paired = subst (λ n. ArePaired G Q 2 0 n b) x.at_a (subst (ArePaired G Q 2 0 (slice_index v 0)) x.at_b (images 2 0));
+    paired = subst (λ n. ArePaired G Q filter_depth 0 n b) x.at_a (subst (ArePaired G Q filter_depth 0 (slice_index v 0)) x.at_b (images filter_depth 0));
   }
 
 module _ (G : NumberedGraph) (Q : Shape) (a b t : ℕ) (first : slice_get Q.slots 0 ≡ Some (Entity t)) where
@@ -70,39 +71,14 @@ module _ (G : NumberedGraph) (Q : Shape) (a b t : ℕ) (first : slice_get Q.slot
   unpaired_out none = record { unpaired = none; idle = λ same v w x. none (match_under G Q same a b v w x t first) }
 
   -- two that are paired are so under the key
-  pub under_paired : ArePaired G Q 2 0 a b → ArePairedUnder G Q a b
+  pub under_paired : ArePaired G Q filter_depth 0 a b → ArePairedUnder G Q a b
   under_paired paired =
       let here = paired.0 (Entity t) first in
       record { left = (Entity t, first, here.0); right = (Entity t, first, here.1); paired = paired }
 
-  -- a key whose type one of the two lacks is ruled out
-  pub missing_out : ¬ (FitsSlot G (Entity t) a × FitsSlot G (Entity t) b) → IsRuledOut G Q a b
-  missing_out lacks = unpaired_out (λ h. lacks (
-    subst (λ (s : Slot). FitsSlot G s a) (some_same h.left.0 (Entity t) (sym h.left.1 ∙ first)) h.left.2,
-    subst (λ (s : Slot). FitsSlot G s b) (some_same h.right.0 (Entity t) (sym h.right.1 ∙ first)) h.right.2,
-  ))
-
 -- ---- key by key
 
--- what holds of the keys before one, and of that one
-pub one_more : (K : List Shape) (P : Shape → Type 0) (i : ℕ) (Q : Shape) → slice_get K i ≡ Some Q
-    → ((k : ℕ) (R : Shape) → k < i → slice_get K k ≡ Some R → P R) → P Q
-    → (k : ℕ) (R : Shape) → k < i + 1 → slice_get K k ≡ Some R → P R
-one_more K P i Q here before p k R lt at = elim (cases_eq k i) [
-  | inl e ↦ subst P (some_same Q R (sym here ∙ ap (slice_get K) (sym e) ∙ at)) p
-  | inr ne ↦ before k R (omega arith) at
-]
-
--- what holds of the keys behind one, and of that one
-pub one_less : (K : List Shape) (P : Shape → Type 0) (i : ℕ) (Q : Shape) → slice_get K i ≡ Some Q
-    → ((k : ℕ) (R : Shape) → i + 1 ≤ k → slice_get K k ≡ Some R → P R) → P Q
-    → (k : ℕ) (R : Shape) → i ≤ k → slice_get K k ≡ Some R → P R
-one_less K P i Q here behind p k R le at = elim (cases_eq k i) [
-  | inl e ↦ subst P (some_same Q R (sym here ∙ ap (slice_get K) (sym e) ∙ at)) p
-  | inr ne ↦ behind k R (omega arith) at
-]
-
--- the same, where it holds of whatever key stands at the place
+-- what holds of the keys before one, and of whatever key stands there
 pub all_up_to : (K : List Shape) (P : Shape → Type 0) (i : ℕ)
     → ((k : ℕ) (R : Shape) → k < i → slice_get K k ≡ Some R → P R) → ((R : Shape) → slice_get K i ≡ Some R → P R)
     → (k : ℕ) (R : Shape) → k < i + 1 → slice_get K k ≡ Some R → P R
@@ -111,6 +87,7 @@ all_up_to K P i before here k R lt at = elim (cases_eq k i) [
   | inr ne ↦ before k R (omega arith) at
 ]
 
+-- what holds of the keys behind one, and of whatever key stands there
 pub all_from : (K : List Shape) (P : Shape → Type 0) (i : ℕ)
     → ((k : ℕ) (R : Shape) → i + 1 ≤ k → slice_get K k ≡ Some R → P R) → ((R : Shape) → slice_get K i ≡ Some R → P R)
     → (k : ℕ) (R : Shape) → i ≤ k → slice_get K k ≡ Some R → P R
@@ -118,3 +95,10 @@ all_from K P i behind here k R le at = elim (cases_eq k i) [
   | inl e ↦ here R (ap (slice_get K) (sym e) ∙ at)
   | inr ne ↦ behind k R (omega arith) at
 ]
+
+-- the pattern of a key is the one at its place
+pub at_key : (K : List Shape) (key : ℕ) (R Q : Shape) → R ≡ get_or K key R → slice_get K key ≡ Some Q → R ≡ Q
+at_key K key R Q is at = is ∙ get_or_from_slice_get K key Q R at
+
+pub key_at : (K : List Shape) (key : ℕ) (R : Shape) → key < length K → R ≡ get_or K key R → slice_get K key ≡ Some R
+key_at K key R lt is = slice_get-get_or K key R lt ∙ ap (λ (x : Shape). Some x) (sym is)

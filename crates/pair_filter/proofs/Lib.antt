@@ -1,7 +1,5 @@
 mod Idle
 mod Steps
 mod Selections
-mod Linked
-mod Asked
 mod Collected
 mod Dealt

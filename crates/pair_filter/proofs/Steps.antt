@@ -8,9 +8,11 @@ use Rattle.chase_laws.specs.declared.pattern.Slot.{Slot}
 use Rattle.chase_laws.specs.declared.pattern.Slot.TheVariants.{Entity, Any, Value, Folded, Fixed}
 use Rattle.chase_laws.specs.declared.pattern.Edge.{Edge}
 use Rattle.chase_laws.specs.Shape.{Shape}
-use Rattle.chase_laws.specs.Graph.{NumberedGraph, HasRow}
+use Rattle.chase_laws.specs.Graph.{NumberedGraph, HasRow, IsLiteral}
+use Rattle.chase_laws.specs.Valuation.{FitsSlot}
 use Rattle.chase_laws.specs.Pairing.{GoTogether, PairedHere, ArePaired}
-use Rattle.pair_filter.specs.Along.{ArePairedAlong, ArePairedExcept, MaySkip, HavePaired, HasAlone, IsValueEdge}
+use Rattle.pair_filter.specs.Along.{ArePairedAlong, ArePairedExcept, MaySkip, HavePaired, HaveCommon, IsValueEdge, IsLeaf}
+use Rattle.pair_filter.proofs.Idle.{some_same}
 
 -- the place that an edge is skipped at
 same_place : (k j : ℕ) → Some k ≡ Some j → k ≡ j
@@ -143,14 +145,6 @@ module _ (G : NumberedGraph) (Q : Shape) where
       )) h
 
   -- numbers that rows lead to, as a list has them
-  pub has_alone_rows : (R : ℕ → Type 0) (ns : List ℕ) → ((o : ℕ) → Contains ns o ↔ R o) → (skipped : Option ℕ) (d s : ℕ)
-      → ((u : ℕ) → R u → ArePairedExcept G Q skipped d s u u → ArePaired G Q d s u u)
-      → HasAlone G Q skipped d s ns ↔ ((u w : ℕ) × ArePaired G Q d s u w × R u × R w)
-  has_alone_rows R ns exact skipped d s led = (
-    (λ h. let row = (exact h.number).0 h.in_list in (h.number, h.number, led h.number row h.paired, row, row)),
-    (λ r. record { number = r.0; in_list = (exact r.0).1 r.3; paired = except_any skipped d s r.0 r.0 (left_paired d s r.0 r.1 r.2) }),
-  )
-
   pub have_paired_rows : (R S : ℕ → Type 0) (us ws : List ℕ) → ((o : ℕ) → Contains us o ↔ R o) → ((o : ℕ) → Contains ws o ↔ S o) → (skipped : Option ℕ) (d s : ℕ)
       → ((u w : ℕ) → R u → S w → ArePairedExcept G Q skipped d s u w → ArePaired G Q d s u w)
       → HavePaired G Q skipped d s us ws ↔ ((u w : ℕ) × ArePaired G Q d s u w × R u × S w)
@@ -166,8 +160,33 @@ module _ (G : NumberedGraph) (Q : Shape) where
   pub same_value : (skipped : Option ℕ) (d s u w : ℕ) → slice_get Q.slots s ≡ Some Value → ArePairedExcept G Q skipped d s u w → u ≡ w
   same_value skipped d s u w at h = (h.here Value at).2
 
-  pub same_constant : (skipped : Option ℕ) (d s u w c : ℕ) → slice_get Q.slots s ≡ Some (Fixed c) → ArePairedExcept G Q skipped d s u w → (u ≡ c) × (w ≡ c)
-  same_constant skipped d s u w c at h = let x = h.here (Fixed c) at in (x.0, x.1)
+  pub same_constant : (skipped : Option ℕ) (d s u w c : ℕ) → slice_get Q.slots s ≡ Some (Fixed c) → ArePairedExcept G Q skipped d s u w → u ≡ w
+  same_constant skipped d s u w c at h = (h.here (Fixed c) at).2
+
+  -- where the two are one number, both lists have it
+  pub common_name : (skipped : Option ℕ) (d s : ℕ) (us ws : List ℕ) → ((u w : ℕ) → ArePairedExcept G Q skipped d s u w → u ≡ w)
+      → HaveCommon G Q skipped d s us ws ↔ HavePaired G Q skipped d s us ws
+  common_name skipped d s us ws one = (
+    (λ m. record { left = m.number; right = m.number; in_left = m.in_left; in_right = m.in_right; paired = m.paired }),
+    (λ h. record {
+      number = h.left;
+      in_left = h.in_left;
+      in_right = subst (λ n. Contains ws n) (sym (one h.left h.right h.paired)) h.in_right;
+      paired = left_alone skipped d s h.left h.right h.paired;
+    }),
+  )
+
+  -- where no edge is asked, at a value variable a literal of both lists is all that is asked
+  pub shared_literal : (skipped : Option ℕ) (d s : ℕ) (us ws : List ℕ) → slice_get Q.slots s ≡ Some Value → IsLeaf Q skipped d s
+      → ((l : ℕ) × Contains us l × Contains ws l × IsLiteral G l) ↔ HavePaired G Q skipped d s us ws
+  shared_literal skipped d s us ws at leaf = (
+    (λ h.
+        let here : PairedHere G Q s h.0 h.0 = λ slot there. (let same = some_same Value slot (sym at ∙ there) in subst (λ (x : Slot). FitsSlot G x h.0 × FitsSlot G x h.0 × GoTogether G x h.0 h.0) same (h.3, h.3, refl)) in
+        record { left = h.0; right = h.0; in_left = h.1; in_right = h.2; paired = leaf G h.0 h.0 here }),
+    (λ h.
+        let x = h.paired.here Value at in
+        (h.left, h.in_left, subst (λ n. Contains ws n) (sym x.2) h.in_right, x.0)),
+  )
 
   -- two that are paired share a value along an edge to a value variable that is not skipped
   pub shares_value : (skipped : Option ℕ) (depth d s u w : ℕ) → depth ≡ suc d → (e : Edge) → IsValueEdge Q skipped s e → ArePairedExcept G Q skipped depth s u w

@@ -71,3 +71,7 @@ pub record HaveCommonPartner (G : NumberedGraph) (Q : Shape) (skipped : Option �
   pub in_first : Contains xs right
   pub in_second : Contains ys right
   pub paired : ArePairedExcept G Q skipped d s u right
+
+-- whatever is paired here at slot s is paired there to the depth, as no edge is asked
+abbrev pub IsLeaf : Shape → Option ℕ → ℕ → ℕ → Type 0
+IsLeaf Q skipped depth s = (G : NumberedGraph) (u w : ℕ) → PairedHere G Q s u w → ArePairedExcept G Q skipped depth s u w

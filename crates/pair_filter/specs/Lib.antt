@@ -1,10 +1,7 @@
 -- what callers of this crate read
+pub mod Depth
 pub mod Selection
 pub mod Keys
 -- inner invariants and words of the proofs
 pub mod Along
-pub mod Asking
-pub mod Telling
-pub mod Reaching
-pub mod Known
 pub mod Runs

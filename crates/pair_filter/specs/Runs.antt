@@ -5,6 +5,7 @@ use Rattle.chase_laws.specs.Graph.{NumberedGraph}
 use Rattle.chase_laws.specs.Pairing.{ArePairedBy}
 use Rattle.chase_laws.specs.Shape.{Shape}
 use Rattle.pair_filter.specs.declared.keeping.KeptPairs.{KeptPairs}
+use Rattle.pair_filter.specs.Depth.{filter_depth}
 use Rattle.pair_filter.specs.Keys.{AreKeysOf}
 use Rattle.pair_filter.specs.Selection.{IsSelection}
 
@@ -12,9 +13,9 @@ use Rattle.pair_filter.specs.Selection.{IsSelection}
 abbrev pub run_of : List (ℕ × ℕ) → ℕ → List (ℕ × ℕ)
 run_of xs place = take 1024 (drop (place * 1024) xs)
 
--- Of some pairs those are kept that some key pairs to depth 2, in order, and beside each stand its keys.
+-- Of some pairs those are kept that some key pairs to the filter's depth, in order, and beside each stand its keys.
 abbrev pub IsKept : NumberedGraph → List Shape → List (ℕ × ℕ) → KeptPairs → Type 0
-IsKept G K xs kept = IsSelection (λ x. ArePairedBy G K 2 x.0 x.1) xs kept.pairs.items
+IsKept G K xs kept = IsSelection (λ x. ArePairedBy G K filter_depth x.0 x.1) xs kept.pairs.items
     × AllZip (λ x range. AreKeysOf G K range x.0 x.1) kept.pairs.items kept.keys.items
 
 -- What is kept of the run at the place `first`, and of each that is a multiple of `threads` behind it, stands in a list.

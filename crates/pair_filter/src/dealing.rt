@@ -4,8 +4,7 @@ ghost use Rattle.std.specs.Prelude.{◌≡◌, ◌<◌, ◌≤◌, ◌^◌, ℕ,
 ghost use Rattle.pair_filter.specs.Runs.{AreKeptOf, IsKept};
 
 use crate::keeping::KeptPairs;
-use crate::memo::Memo;
-use crate::runs::{RUN, keep_alone, keep_run, run_at};
+use crate::runs::{RUN, keep_run, run_at};
 use chase_laws::Pattern;
 use gk_base::NoMemory;
 use rayon::prelude::*;
@@ -13,8 +12,7 @@ use std::alloc::Global;
 use std::thread::Threads;
 use typed_graph::Graph;
 
-/// What is kept of each run from the place `first` on that is dealt to one of so many threads. Of so many names as there is room for
-/// something is kept meanwhile.
+/// What is kept of each run from the place `first` on that is dealt to one of so many threads.
 fn keep_dealt(
     alloc: Global,
     graph: &Graph,
@@ -22,24 +20,21 @@ fn keep_dealt(
     pairs: &[(u32, u32)],
     first: usize,
     threads: usize,
-    room: usize,
 ) -> Result<Vec<KeptPairs>, NoMemory>
     requires some { 0 < threads }
     requires few { threads < 2 ^ 32 }
     ensures { IfOk result (λ v. AreKeptOf graph.now patterns.now pairs.now threads first v.items) }
 {
-    let mut memo = Memo::new(alloc, graph.names(), patterns, room)?;
     let mut kept = Vec::new(alloc);
     let mut place = first;
     while place < pairs.len().div_ceil(RUN) {
-        kept.push(keep_run(alloc, graph, patterns, run_at(pairs, place), &mut memo)?)?;
+        kept.push(keep_run(alloc, graph, patterns, run_at(pairs, place))?)?;
         place += threads;
     }
     Ok(kept)
 }
 
-/// What is kept of each run, by the thread to which it is dealt. The room is shared out among the threads. Where a thread can't be
-/// started the caller does its work.
+/// What is kept of each run, by the thread to which it is dealt. Where a thread can't be started the caller does its work.
 fn keep_by_threads<R: Threads + Sync>(
     rt: &R,
     alloc: Global,
@@ -47,14 +42,12 @@ fn keep_by_threads<R: Threads + Sync>(
     graph: &Graph,
     patterns: &[Pattern],
     pairs: &[(u32, u32)],
-    room: usize,
 ) -> Result<Vec<Vec<KeptPairs>>, NoMemory>
     requires some { 0 < threads }
     requires few { threads < 2 ^ 32 }
     ensures count { IfOk result (λ v. length v.items ≡ threads) }
     ensures kept { IfOk result (λ v. (first : ℕ) (dealt : _) → slice_get v.items first ≡ Some dealt → AreKeptOf graph.now patterns.now pairs.now threads first dealt.items) }
 {
-    let share = room / threads;
     (0..threads)
         .into_par_iter()
         .with_min_len(1)
@@ -62,7 +55,7 @@ fn keep_by_threads<R: Threads + Sync>(
             |first: usize| -> Result<Vec<KeptPairs>, NoMemory>
                 requires { (0 < threads) × (threads < 2 ^ 32) }
                 ensures { IfOk result (λ v. AreKeptOf graph.entry.now patterns.entry.now pairs.entry.now threads first v.items) }
-            { keep_dealt(alloc, graph, patterns, pairs, first, threads, share) },
+            { keep_dealt(alloc, graph, patterns, pairs, first, threads) },
         )
         .collect::<Result<Vec<Vec<KeptPairs>>, NoMemory>>(rt, alloc)?
 }
@@ -76,15 +69,14 @@ pub(crate) fn keep_in_threads<R: Threads + Sync>(
     graph: &Graph,
     patterns: &[Pattern],
     pairs: &[(u32, u32)],
-    room: usize,
 ) -> Result<KeptPairs, NoMemory>
     ensures { IfOk result (IsKept graph.now patterns.now pairs.now) }
 {
     let threads = (pairs.len() / RUN).min(threads as usize);
     if threads < 2 {
-        return keep_alone(alloc, graph, patterns, pairs, room);
+        return keep_run(alloc, graph, patterns, pairs);
     }
-    let dealt = keep_by_threads(rt, alloc, threads, graph, patterns, pairs, room)?;
+    let dealt = keep_by_threads(rt, alloc, threads, graph, patterns, pairs)?;
     let mut kept = Vec::with_capacity(alloc, pairs.len())?;
     let mut keys = Vec::with_capacity(alloc, pairs.len())?;
     for run in 0..pairs.len().div_ceil(RUN) {

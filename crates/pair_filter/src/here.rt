@@ -32,14 +32,6 @@ fn go_together(graph: &Graph, slot: Slot, u: u32, w: u32) -> bool
     }
 }
 
-/// Whether a name may stand at slot `s`; then it goes together with itself.
-pub(crate) fn is_here(graph: &Graph, pattern: &Pattern, s: u8, n: u32) -> bool
-    requires { s < length pattern.now.slots }
-    ensures { IsTrue result ↔ PairedHere graph.now pattern.now s n n }
-{
-    graph.fits_slot(slot_at(pattern, s), n)
-}
-
 /// Whether two names may stand at slot `s`, and can go together there.
 pub(crate) fn are_here(graph: &Graph, pattern: &Pattern, s: u8, u: u32, w: u32) -> bool
     requires { s < length pattern.now.slots }

@@ -5,6 +5,7 @@ ghost use Rattle.std.specs.List.{AllZip};
 ghost use Rattle.chase_laws.specs.Candidate.{AreAscending};
 ghost use Rattle.chase_laws.specs.Chase.{IsAble};
 ghost use Rattle.chase_laws.specs.Pairing.{ArePairedBy};
+ghost use Rattle.pair_filter.specs.Depth.{filter_depth};
 ghost use Rattle.pair_filter.specs.Keys.{AreKeysOf};
 ghost use Rattle.pair_filter.specs.Selection.{IsSelection};
 
@@ -17,10 +18,6 @@ use rayon::current_num_threads;
 use std::alloc::Global;
 use std::thread::Threads;
 use typed_graph::Graph;
-
-/// Of so many names at most something is kept for each pair that is filtered, so all of it takes no more than 60 bytes a pair, and
-/// none when the pairs are filtered.
-const NAMES_A_PAIR: usize = 12;
 
 /// Pairs that are kept, and at the same places the keys that may identify each.
 #[derive(Drop)]
@@ -42,8 +39,8 @@ pub fn keep_with_keys<R: Threads + Sync>(
     patterns: &[Pattern],
     pairs: &[(u32, u32)],
 ) -> Result<KeptPairs, NoMemory>
-    ensures kept { IfOk result (λ v. IsSelection (λ x. ArePairedBy graph.now patterns.now 2 x.0 x.1) pairs.now v.pairs.items) }
-    ensures exact { IfOk result (λ v. (a b : ℕ) → Contains v.pairs.items (a, b) ↔ (Contains pairs.now (a, b) × ArePairedBy graph.now patterns.now 2 a b)) }
+    ensures kept { IfOk result (λ v. IsSelection (λ x. ArePairedBy graph.now patterns.now filter_depth x.0 x.1) pairs.now v.pairs.items) }
+    ensures exact { IfOk result (λ v. (a b : ℕ) → Contains v.pairs.items (a, b) ↔ (Contains pairs.now (a, b) × ArePairedBy graph.now patterns.now filter_depth a b)) }
     ensures able { IfOk result (λ v. (a b : ℕ) → IsAble graph.now patterns.now a b → Contains pairs.now (a, b) → Contains v.pairs.items (a, b)) }
     ensures few { IfOk result (λ v. length v.pairs.items ≤ length pairs.now) }
     ensures ascending { IfOk result (λ v. AreAscending pairs.now → AreAscending v.pairs.items) }
@@ -51,8 +48,7 @@ pub fn keep_with_keys<R: Threads + Sync>(
 {
     // A fact for the proof: able pairs are paired.
     law_paired();
-    let room = pairs.len().saturating_mul(NAMES_A_PAIR);
-    let kept = keep_in_threads(rt, alloc, threads, graph, patterns, pairs, room)?;
+    let kept = keep_in_threads(rt, alloc, threads, graph, patterns, pairs)?;
     Ok(kept)
 }
 
@@ -68,8 +64,8 @@ pub fn keep<R: Threads + Sync>(
     patterns: &[Pattern],
     pairs: &[(u32, u32)],
 ) -> Result<Vec<(u32, u32)>, NoMemory>
-    ensures kept { IfOk result (λ v. IsSelection (λ x. ArePairedBy graph.now patterns.now 2 x.0 x.1) pairs.now v.items) }
-    ensures exact { IfOk result (λ v. (a b : ℕ) → Contains v.items (a, b) ↔ (Contains pairs.now (a, b) × ArePairedBy graph.now patterns.now 2 a b)) }
+    ensures kept { IfOk result (λ v. IsSelection (λ x. ArePairedBy graph.now patterns.now filter_depth x.0 x.1) pairs.now v.items) }
+    ensures exact { IfOk result (λ v. (a b : ℕ) → Contains v.items (a, b) ↔ (Contains pairs.now (a, b) × ArePairedBy graph.now patterns.now filter_depth a b)) }
     ensures able { IfOk result (λ v. (a b : ℕ) → IsAble graph.now patterns.now a b → Contains pairs.now (a, b) → Contains v.items (a, b)) }
     ensures few { IfOk result (λ v. length v.items ≤ length pairs.now) }
     ensures ascending { IfOk result (λ v. AreAscending pairs.now → AreAscending v.items) }

@@ -1,14 +1,13 @@
 //! Whether a key pairs two names: edge by edge, down to a depth.
 
 ghost use Rattle.std.specs.Prelude.{◌≡◌, ◌<◌, ◌↔◌, IsTrue, Some, IfSome, length, slice_get};
-ghost use Rattle.chase_laws.specs.declared.pattern.Edge.{Edge};
 ghost use Rattle.std.specs.List.Sorted.{IsStrictlyIncreasing};
 ghost use Rattle.chase_laws.specs.declared.pattern.Slot.TheVariants.{Value};
 ghost use Rattle.chase_laws.specs.Pairing.{PairedHere};
-ghost use Rattle.pair_filter.specs.Along.{ArePairedExcept, ArePairedAlong, ArePairedForth, ArePairedBack, HavePaired, HasPartner, HaveCommonPartner, IsValueEdge};
+ghost use Rattle.pair_filter.specs.Along.{ArePairedExcept, ArePairedForth, ArePairedBack, HavePaired, HasPartner, HasAlone, HaveCommon, HaveCommonPartner, IsValueEdge};
 
-use crate::alone::{has_alone, have_common, have_constant, is_alone};
 use crate::here::are_here;
+use crate::leaf::{is_leaf, share_literal};
 use crate::parts::{edge_at, edge_count, is_skipped, skipped_from, slot_at};
 use chase_laws::{Edge, Pattern, Slot};
 use typed_graph::Graph;
@@ -41,7 +40,7 @@ fn are_paired(
 /// Whether two names that can go together at slot `s` are paired there to a depth, where the edge at the skipped place is
 /// not asked.
 #[cycle(paired)]
-fn are_paired_along(
+pub(crate) fn are_paired_along(
     graph: &Graph,
     pattern: &Pattern,
     skipped: Option<usize>,
@@ -61,36 +60,18 @@ fn are_paired_along(
         if is_skipped(skipped, place) {
             continue;
         }
-        if !are_paired_over(graph, pattern, depth - 1, place, s, u, w) {
+        let edge = edge_at(pattern, place);
+        if !are_paired_forth(graph, pattern, depth - 1, place, edge, s, u, w) {
+            return false;
+        }
+        if !are_paired_back(graph, pattern, depth - 1, place, edge, s, u, w) {
             return false;
         }
     }
     true
 }
 
-/// Whether two names are paired to a depth along the edge at a place, for each of its ends that is at slot `s`.
-#[cycle(paired)]
-pub(crate) fn are_paired_over(
-    graph: &Graph,
-    pattern: &Pattern,
-    depth: u8,
-    place: usize,
-    s: u8,
-    u: u32,
-    w: u32,
-) -> bool
-    requires place { place < length pattern.now.edges }
-    requires here { PairedHere graph.now pattern.now s u w }
-    ensures { IsTrue result ↔ ((e : Edge) → slice_get pattern.now.edges place ≡ Some e → ArePairedAlong graph.now pattern.now depth e s u w) }
-{
-    let edge = edge_at(pattern, place);
-    if !are_paired_forth(graph, pattern, depth, place, edge, s, u, w) {
-        return false;
-    }
-    are_paired_back(graph, pattern, depth, place, edge, s, u, w)
-}
-
-/// Whether they are along an edge, if that begins at the slot.
+/// Whether two names are paired to a depth along the edge at a place, if that begins at slot `s`.
 #[cycle(paired)]
 fn are_paired_forth(
     graph: &Graph,
@@ -116,7 +97,7 @@ fn are_paired_forth(
     have_paired(graph, pattern, skipped, depth, edge.to, us, ws)
 }
 
-/// Whether they are along an edge, if that ends at the slot.
+/// Whether they are, if the edge ends there.
 #[cycle(paired)]
 fn are_paired_back(
     graph: &Graph,
@@ -142,8 +123,7 @@ fn are_paired_back(
     have_paired(graph, pattern, skipped, depth, edge.from, us, ws)
 }
 
-/// Whether a name of one list and a name of another are paired. At a value variable the two are one name, at a constant
-/// they are the constant.
+/// Whether a name of one list and a name of another are paired. At a value variable and at a constant the two are one name.
 #[cycle(paired)]
 fn have_paired(
     graph: &Graph,
@@ -160,15 +140,88 @@ fn have_paired(
     ensures { IsTrue result ↔ HavePaired graph.now pattern.now skipped depth s us.now ws.now }
 {
     match slot_at(pattern, s) {
-        Slot::Value => have_common(graph, pattern, skipped, depth, s, us, ws),
-        Slot::Fixed(c) => have_constant(graph, pattern, skipped, depth, s, c, us, ws),
+        Slot::Value => have_value(graph, pattern, skipped, depth, s, us, ws),
+        Slot::Fixed(_) => have_common(graph, pattern, skipped, depth, s, us, ws),
         Slot::Entity(_) | Slot::Any(_) | Slot::Folded => {
             have_any_paired(graph, pattern, skipped, depth, s, us, ws)
         }
     }
 }
 
-/// Whether there are such two, whatever stands at the slot. Names that are not even paired with themselves are passed over.
+/// Whether there are such two at a value variable.
+#[cycle(paired)]
+fn have_value(
+    graph: &Graph,
+    pattern: &Pattern,
+    skipped: Option<usize>,
+    depth: u8,
+    s: u8,
+    us: &[u32],
+    ws: &[u32],
+) -> bool
+    requires slot { s < length pattern.now.slots }
+    requires value { slice_get pattern.now.slots s ≡ Some Value }
+    requires left { IsStrictlyIncreasing us.now }
+    requires right { IsStrictlyIncreasing ws.now }
+    ensures { IsTrue result ↔ HavePaired graph.now pattern.now skipped depth s us.now ws.now }
+{
+    if is_leaf(pattern, skipped, depth, s) {
+        return share_literal(graph, us, ws);
+    }
+    have_common(graph, pattern, skipped, depth, s, us, ws)
+}
+
+/// Whether a name that both lists have is paired with itself. The shorter list is gone through, the longer one searched.
+#[cycle(paired)]
+fn have_common(
+    graph: &Graph,
+    pattern: &Pattern,
+    skipped: Option<usize>,
+    depth: u8,
+    s: u8,
+    us: &[u32],
+    ws: &[u32],
+) -> bool
+    requires slot { s < length pattern.now.slots }
+    requires left { IsStrictlyIncreasing us.now }
+    requires right { IsStrictlyIncreasing ws.now }
+    ensures { IsTrue result ↔ HaveCommon graph.now pattern.now skipped depth s us.now ws.now }
+{
+    if us.len() <= ws.len() {
+        has_common_among(graph, pattern, skipped, depth, s, us, ws)
+    } else {
+        has_common_among(graph, pattern, skipped, depth, s, ws, us)
+    }
+}
+
+/// Whether a name of a list that is in another one, too, is paired with itself.
+#[cycle(paired)]
+fn has_common_among(
+    graph: &Graph,
+    pattern: &Pattern,
+    skipped: Option<usize>,
+    depth: u8,
+    s: u8,
+    names: &[u32],
+    others: &[u32],
+) -> bool
+    requires slot { s < length pattern.now.slots }
+    requires ascending { IsStrictlyIncreasing others.now }
+    ensures { IsTrue result ↔ HaveCommon graph.now pattern.now skipped depth s names.now others.now }
+{
+    for n in names {
+        if !holds(others, *n) {
+            continue;
+        }
+        if are_paired(graph, pattern, skipped, depth, s, *n, *n) {
+            return true;
+        }
+    }
+    false
+}
+
+/// Whether a name of one list and a name of another are paired, whatever stands at the slot. In longer lists names that are not
+/// even paired with themselves are passed over.
 #[cycle(paired)]
 fn have_any_paired(
     graph: &Graph,
@@ -190,7 +243,7 @@ fn have_any_paired(
         return false;
     }
     for u in us {
-        if !is_alone(graph, pattern, skipped, depth, s, *u) {
+        if !are_paired(graph, pattern, skipped, depth, s, *u, *u) {
             continue;
         }
         if has_partner(graph, pattern, skipped, depth, s, *u, ws) {
@@ -216,6 +269,27 @@ fn have_few_paired(
 {
     for u in us {
         if has_partner_in(graph, pattern, skipped, depth, s, *u, ws) {
+            return true;
+        }
+    }
+    false
+}
+
+/// Whether some name of a list is paired with itself.
+#[cycle(paired)]
+fn has_alone(
+    graph: &Graph,
+    pattern: &Pattern,
+    skipped: Option<usize>,
+    depth: u8,
+    s: u8,
+    names: &[u32],
+) -> bool
+    requires { s < length pattern.now.slots }
+    ensures { IsTrue result ↔ HasAlone graph.now pattern.now skipped depth s names.now }
+{
+    for n in names {
+        if are_paired(graph, pattern, skipped, depth, s, *n, *n) {
             return true;
         }
     }
@@ -346,7 +420,7 @@ fn value_edge(pattern: &Pattern, skipped: Option<usize>, s: u8) -> Option<Edge>
 }
 
 /// Whether an edge leads from slot `s` to a value variable.
-pub(crate) fn leads_to_value(pattern: &Pattern, s: u8, edge: Edge) -> bool
+fn leads_to_value(pattern: &Pattern, s: u8, edge: Edge) -> bool
     requires { edge.to < length pattern.now.slots }
     ensures { IsTrue result → (edge.from ≡ s) × (slice_get pattern.now.slots edge.to ≡ Some Value) }
 {

@@ -7,7 +7,6 @@ use Rattle.pair_filter.proofs.dealing.keep_dealt.Goals as goal
 pub loop-place-init : goal.loop-place-init
 loop-place-init c = record {
   place = rw c.new-kept.ensures.items (omega arith);
-  memo = c.in_ok-memo.ensures c.args.graph.now;
   kept = rw c.new-kept.ensures.items (λ turn k at. absurd (cc));
 }
 
@@ -19,10 +18,9 @@ loop-place-preserved c =
     let xs = c.args.pairs.now in
     let list = c.loop-place.kept.items in
     let kept = c.in_ok-keep_run.field-0 in
-    let one : IsKept G K _ kept = subst (λ l. IsKept G K l kept) c.run_at.ensures c.in_ok-keep_run.ensures.kept in
+    let one : IsKept G K _ kept = subst (λ l. IsKept G K l kept) c.run_at.ensures c.in_ok-keep_run.ensures in
     record {
       place = rw c.in_ok-push.ensures.items (place_behind c.args.threads c.args.first c.loop-place.place list kept c.loop-place.invariant.place);
-      memo = c.in_ok-keep_run.ensures.memo;
       kept = rw c.in_ok-push.ensures.items (dealt_more G K xs c.args.threads c.args.first c.loop-place.place list kept c.loop-place.invariant.place c.loop-place.invariant.kept one);
     }
 

@@ -1,9 +1,10 @@
-use Rattle.std.proofs.Common.{◌≡◌, ◌<◌, ◌≤◌, ◌*◌, ◌/◌, ◌%◌, ◌∙◌, ℕ, Some, slice_get, take, length, arith, ap, sym, subst}
+use Rattle.std.proofs.Common.{◌≡◌, ◌*◌, ◌/◌, ◌∙◌, ℕ, take, arith, sym, subst}
 use Rattle.std.proofs.lemmas.List.{take_all}
 use Rattle.std.proofs.lemmas.Option.{get_or_from_slice_get, slice_get_within}
 use Rattle.rayon.proofs.ListFacts.{AllZip-append}
 use Rattle.chase_laws.specs.Pairing.{ArePairedBy}
 use Rattle.paired_search.specs.declared.key_range.KeyRange.{KeyRange}
+use Rattle.pair_filter.specs.Depth.{filter_depth}
 use Rattle.pair_filter.specs.Keys.{AreKeysOf}
 use Rattle.pair_filter.specs.Runs.{IsKept, run_of}
 use Rattle.pair_filter.specs.Selection.{IsSelection}
@@ -40,6 +41,6 @@ loop-run-preserved g c =
 pub returns : goal.returns
 returns g c =
     let xs = c.args.pairs.now in
-    let P : ℕ × ℕ → Type 0 = λ x. ArePairedBy c.args.graph.now c.args.patterns.now 2 x.0 x.1 in
+    let P : ℕ × ℕ → Type 0 = λ x. ArePairedBy c.args.graph.now c.args.patterns.now filter_depth x.0 x.1 in
     let whole : take (c.loop-run.run * 1024) xs ≡ xs = take_all (c.loop-run.run * 1024) xs (omega (arith, c.loop-run-test.false, c.div_ceil-run-end.ensures)) in
     (subst (λ l. IsSelection P l c.loop-run.kept.items) whole c.loop-run.invariant.kept, c.loop-run.invariant.keys)

@@ -1,9 +1,9 @@
-use Rattle.std.proofs.Common.{List, ℕ, Some, Contains, slice_get, ◌-◌, ◌≡◌, ◌∙◌, inl, inr, ap, arith, true≢false, sym, subst, refl, take_all}
+use Rattle.std.proofs.Common.{List, ℕ, Some, slice_get, ◌-◌, ◌≡◌, ◌∙◌, inl, inr, ap, arith, true≢false, sym, subst, refl, take_all}
 use Rattle.chase_laws.specs.declared.pattern.Slot.{Slot}
-use Rattle.chase_laws.specs.declared.pattern.Slot.TheVariants.{Value, Fixed}
+use Rattle.chase_laws.specs.declared.pattern.Slot.TheVariants.{Fixed}
 use Rattle.chase_laws.specs.Graph.{HasRow}
-use Rattle.pair_filter.specs.Along.{ArePairedExcept, HavePaired, HasPartner, HaveCommonPartner}
-use Rattle.pair_filter.proofs.Steps.{left_alone, right_alone, paired_at_once, paired_by_edges, led_forth, led_back, have_paired_rows, same_value, same_constant, shares_value, contains_more}
+use Rattle.pair_filter.specs.Along.{ArePairedExcept, HavePaired, HasPartner, HasAlone, HaveCommon, HaveCommonPartner}
+use Rattle.pair_filter.proofs.Steps.{left_alone, right_alone, paired_at_once, paired_by_edges, not_along, shared_literal, led_forth, led_back, have_paired_rows, same_value, same_constant, common_name, shares_value, contains_more}
 use Rattle.pair_filter.proofs.paired.+paired.Goals as goal
 
 pub are_paired_forth-returns : goal.are_paired_forth-returns
@@ -30,17 +30,101 @@ are_paired_back-returns t c =
       (λ h. c.have_paired.ensures.1 (rows.1 (h c.if-edge-s.false))),
     )
 
-pub are_paired_along-returns-then-not-are_paired_over : goal.are_paired_along-returns-then-not-are_paired_over
-are_paired_along-returns-then-not-are_paired_over t c = (
-  (λ f. absurd (true≢false (sym f))),
-  (λ h. absurd (true≢false (sym (c.are_paired_over.ensures.1 (λ e at. h.along (c.args.depth - 1) c.loop-place.place e (omega (arith, c.if-depth-eq0.false)) (λ x. true≢false (sym (c.is_skipped.ensures.1 x) ∙ c.if-is_skipped.false)) at)) ∙ c.if-not-are_paired_over.true))),
-)
+pub are_paired_along-returns-then-not-are_paired_forth : goal.are_paired_along-returns-then-not-are_paired_forth
+are_paired_along-returns-then-not-are_paired_forth t c =
+    let none = not_along c.args.graph.now c.args.pattern.now c.args.skipped c.args.depth (c.args.depth - 1) c.args.s c.args.u c.args.w (omega (arith, c.if-depth-eq0.false)) c.loop-place.place c.edge_at-edge.result (λ e. true≢false (sym (c.is_skipped.ensures.1 e) ∙ c.if-is_skipped.false)) c.edge_at-edge.ensures.edge
+    (λ along. true≢false (sym (c.are_paired_forth.ensures.1 along.0) ∙ c.if-not-are_paired_forth.true)) in
+    ((λ f. absurd (true≢false (sym f))), (λ h. absurd (none h)))
+
+pub are_paired_along-returns-then-not-are_paired_back : goal.are_paired_along-returns-then-not-are_paired_back
+are_paired_along-returns-then-not-are_paired_back t c =
+    let none = not_along c.args.graph.now c.args.pattern.now c.args.skipped c.args.depth (c.args.depth - 1) c.args.s c.args.u c.args.w (omega (arith, c.if-depth-eq0.false)) c.loop-place.place c.edge_at-edge.result (λ e. true≢false (sym (c.is_skipped.ensures.1 e) ∙ c.if-is_skipped.false)) c.edge_at-edge.ensures.edge
+    (λ along. true≢false (sym (c.are_paired_back.ensures.1 along.1) ∙ c.if-not-are_paired_back.true)) in
+    ((λ f. absurd (true≢false (sym f))), (λ h. absurd (none h)))
 
 pub are_paired_along-returns : goal.are_paired_along-returns
 are_paired_along-returns t c =
     let paired = paired_by_edges c.args.graph.now c.args.pattern.now c.args.skipped c.args.depth (c.args.depth - 1) c.args.s c.args.u c.args.w (omega (arith, c.if-depth-eq0.false)) c.requires.here
     (λ k e lt asked at. c.loop-place.invariant k e (omega (arith, lt, c.edge_count-place-end.ensures, c.loop-place-test.false)) asked at) in
     ((λ yes. paired), (λ h. refl))
+
+pub are_paired_along-returns-then-depth-eq0 : goal.are_paired_along-returns-then-depth-eq0
+are_paired_along-returns-then-depth-eq0 t c = (
+  (λ yes. paired_at_once c.args.graph.now c.args.pattern.now c.args.skipped c.args.depth c.args.s c.args.u c.args.w c.if-depth-eq0.true c.requires.here),
+  (λ h. refl),
+)
+
+pub has_common_among-loop-n-preserved : goal.has_common_among-loop-n-preserved
+has_common_among-loop-n-preserved t c = λ h.
+    let P = λ (n : ℕ). ArePairedExcept c.args.graph.now c.args.pattern.now c.args.skipped c.args.depth c.args.s n n in
+    elim (contains_more c.args.names.now c.loop-n.n-index h.number c.loop-n-test.true h.in_left) [
+      | inl old ↦ c.loop-n.invariant (record { number = h.number; in_left = old; in_right = h.in_right; paired = h.paired })
+      | inr same ↦ true≢false (sym (c.are_paired.ensures.1 (subst P (sym same) h.paired)) ∙ c.if-are_paired.false)
+    ]
+
+pub has_common_among-returns : goal.has_common_among-returns
+has_common_among-returns t c = (
+  (λ f. absurd (true≢false (sym f))),
+  (λ h. absurd (c.loop-n.invariant (subst (λ (names : List ℕ). HaveCommon c.args.graph.now c.args.pattern.now c.args.skipped c.args.depth c.args.s names c.args.others.now) (sym (take_all c.loop-n.n-index c.args.names.now c.loop-n-test.false)) h))),
+)
+
+pub has_alone-returns : goal.has_alone-returns
+has_alone-returns t c = (
+  (λ f. absurd (true≢false (sym f))),
+  (λ h. absurd (c.loop-n.invariant (subst (λ (names : List ℕ). HasAlone c.args.graph.now c.args.pattern.now c.args.skipped c.args.depth c.args.s names) (sym (take_all c.loop-n.n-index c.args.names.now c.loop-n-test.false)) h))),
+)
+
+pub have_few_paired-loop-u-preserved : goal.have_few_paired-loop-u-preserved
+have_few_paired-loop-u-preserved t c = λ h.
+    let P = λ (u : ℕ). ArePairedExcept c.args.graph.now c.args.pattern.now c.args.skipped c.args.depth c.args.s u h.right in
+    elim (contains_more c.args.us.now c.loop-u.u-index h.left c.loop-u-test.true h.in_left) [
+      | inl old ↦ c.loop-u.invariant (record { left = h.left; right = h.right; in_left = old; in_right = h.in_right; paired = h.paired })
+      | inr same ↦ true≢false (sym (c.has_partner_in.ensures.1 (record { right = h.right; in_right = h.in_right; paired = subst P (sym same) h.paired })) ∙ c.if-has_partner_in.false)
+    ]
+
+pub have_few_paired-returns : goal.have_few_paired-returns
+have_few_paired-returns t c = (
+  (λ f. absurd (true≢false (sym f))),
+  (λ h. absurd (c.loop-u.invariant (subst (λ (names : List ℕ). HavePaired c.args.graph.now c.args.pattern.now c.args.skipped c.args.depth c.args.s names c.args.ws.now) (sym (take_all c.loop-u.u-index c.args.us.now c.loop-u-test.false)) h))),
+)
+
+pub have_any_paired-returns-then-not-has_alone : goal.have_any_paired-returns-then-not-has_alone
+have_any_paired-returns-then-not-has_alone t c = (
+  (λ f. absurd (true≢false (sym f))),
+  (λ h. absurd (true≢false (sym (c.has_alone.ensures.1 (record { number = h.right; in_list = h.in_right; paired = right_alone c.args.graph.now c.args.pattern.now c.args.skipped c.args.depth c.args.s h.left h.right h.paired })) ∙ c.if-not-has_alone.true))),
+)
+
+pub have_any_paired-loop-u-preserved-then-not-are_paired : goal.have_any_paired-loop-u-preserved-then-not-are_paired
+have_any_paired-loop-u-preserved-then-not-are_paired t c = λ h.
+    let P = λ (u : ℕ). ArePairedExcept c.args.graph.now c.args.pattern.now c.args.skipped c.args.depth c.args.s u u in
+    elim (contains_more c.args.us.now c.loop-u.u-index h.left c.loop-u-test.true h.in_left) [
+      | inl old ↦ c.loop-u.invariant (record { left = h.left; right = h.right; in_left = old; in_right = h.in_right; paired = h.paired })
+      | inr same ↦ true≢false (sym (c.are_paired.ensures.1 (subst P (sym same) (left_alone c.args.graph.now c.args.pattern.now c.args.skipped c.args.depth c.args.s h.left h.right h.paired))) ∙ c.if-not-are_paired.true)
+    ]
+
+pub have_value-returns-then-is_leaf : goal.have_value-returns-then-is_leaf
+have_value-returns-then-is_leaf t c =
+    let shared = shared_literal c.args.graph.now c.args.pattern.now c.args.skipped c.args.depth c.args.s c.args.us.now c.args.ws.now c.requires.value (c.is_leaf.ensures c.if-is_leaf.true) in (
+      (λ yes. shared.0 (c.share_literal.ensures.0 yes)),
+      (λ h. c.share_literal.ensures.1 (shared.1 h)),
+    )
+
+pub have_value-returns : goal.have_value-returns
+have_value-returns t c =
+    let common = common_name c.args.graph.now c.args.pattern.now c.args.skipped c.args.depth c.args.s c.args.us.now c.args.ws.now (λ u w. same_value c.args.graph.now c.args.pattern.now c.args.skipped c.args.depth c.args.s u w c.requires.value) in (
+      (λ yes. common.0 (c.have_common.ensures.0 yes)),
+      (λ h. c.have_common.ensures.1 (common.1 h)),
+    )
+
+pub have_paired-returns-in-Fixed : goal.have_paired-returns-in-Fixed
+have_paired-returns-in-Fixed t c =
+    let Q = c.args.pattern.now in
+    let k = c.in-Fixed.field-0 in
+    let at : slice_get Q.slots c.args.s ≡ Some (Fixed k) = c.slot_at.ensures ∙ ap (λ (x : Slot). Some x) c.in-Fixed.is in
+    let common = common_name c.args.graph.now Q c.args.skipped c.args.depth c.args.s c.args.us.now c.args.ws.now (λ u w. same_constant c.args.graph.now Q c.args.skipped c.args.depth c.args.s u w k at) in (
+      (λ yes. common.0 (c.have_common.ensures.0 yes)),
+      (λ h. c.have_common.ensures.1 (common.1 h)),
+    )
 
 pub has_partner_by-loop-l-preserved-then-holders-ws : goal.has_partner_by-loop-l-preserved-then-holders-ws
 has_partner_by-loop-l-preserved-then-holders-ws t c = λ w x in_ws paired row at. elim (contains_more c.outgoing-l-items.result.now c.loop-l.l-index x c.loop-l-test.true at) [
@@ -67,20 +151,6 @@ has_partner_by-returns t c =
           absurd (c.loop-l.invariant h.right s.0 h.in_right h.paired s.2 (rw (take_all c.loop-l.l-index ls c.loop-l-test.false) ((c.outgoing-l-items.ensures.exact s.0).1 s.1)))),
     )
 
-pub have_any_paired-returns-then-not-has_alone : goal.have_any_paired-returns-then-not-has_alone
-have_any_paired-returns-then-not-has_alone t c = (
-  (λ f. absurd (true≢false (sym f))),
-  (λ h. absurd (true≢false (sym (c.has_alone.ensures.1 (record { number = h.right; in_list = h.in_right; paired = right_alone c.args.graph.now c.args.pattern.now c.args.skipped c.args.depth c.args.s h.left h.right h.paired })) ∙ c.if-not-has_alone.true))),
-)
-
-pub have_any_paired-loop-u-preserved-then-not-is_alone : goal.have_any_paired-loop-u-preserved-then-not-is_alone
-have_any_paired-loop-u-preserved-then-not-is_alone t c = λ h.
-    let P = λ (u : ℕ). ArePairedExcept c.args.graph.now c.args.pattern.now c.args.skipped c.args.depth c.args.s u u in
-    elim (contains_more c.args.us.now c.loop-u.u-index h.left c.loop-u-test.true h.in_left) [
-      | inl old ↦ c.loop-u.invariant (record { left = h.left; right = h.right; in_left = old; in_right = h.in_right; paired = h.paired })
-      | inr same ↦ true≢false (sym (c.is_alone.ensures.1 (subst P (sym same) (left_alone c.args.graph.now c.args.pattern.now c.args.skipped c.args.depth c.args.s h.left h.right h.paired))) ∙ c.if-not-is_alone.true)
-    ]
-
 pub have_any_paired-loop-u-preserved : goal.have_any_paired-loop-u-preserved
 have_any_paired-loop-u-preserved t c = λ h.
     let P = λ (u : ℕ). ArePairedExcept c.args.graph.now c.args.pattern.now c.args.skipped c.args.depth c.args.s u h.right in
@@ -88,53 +158,6 @@ have_any_paired-loop-u-preserved t c = λ h.
       | inl old ↦ c.loop-u.invariant (record { left = h.left; right = h.right; in_left = old; in_right = h.in_right; paired = h.paired })
       | inr same ↦ true≢false (sym (c.has_partner.ensures.1 (record { right = h.right; in_right = h.in_right; paired = subst P (sym same) h.paired })) ∙ c.if-has_partner.false)
     ]
-
-pub have_few_paired-loop-u-preserved : goal.have_few_paired-loop-u-preserved
-have_few_paired-loop-u-preserved t c = λ h.
-    let P = λ (u : ℕ). ArePairedExcept c.args.graph.now c.args.pattern.now c.args.skipped c.args.depth c.args.s u h.right in
-    elim (contains_more c.args.us.now c.loop-u.u-index h.left c.loop-u-test.true h.in_left) [
-      | inl old ↦ c.loop-u.invariant (record { left = h.left; right = h.right; in_left = old; in_right = h.in_right; paired = h.paired })
-      | inr same ↦ true≢false (sym (c.has_partner_in.ensures.1 (record { right = h.right; in_right = h.in_right; paired = subst P (sym same) h.paired })) ∙ c.if-has_partner_in.false)
-    ]
-
-pub are_paired_along-returns-then-depth-eq0 : goal.are_paired_along-returns-then-depth-eq0
-are_paired_along-returns-then-depth-eq0 t c = (
-  (λ yes. paired_at_once c.args.graph.now c.args.pattern.now c.args.skipped c.args.depth c.args.s c.args.u c.args.w c.if-depth-eq0.true c.requires.here),
-  (λ h. refl),
-)
-
-pub have_paired-returns-in-Value : goal.have_paired-returns-in-Value
-have_paired-returns-in-Value t c =
-    let G = c.args.graph.now in
-    let Q = c.args.pattern.now in
-    let j = c.args.skipped in
-    let d = c.args.depth in
-    let s = c.args.s in
-    let at : slice_get Q.slots s ≡ Some Value = c.slot_at.ensures ∙ ap (λ (x : Slot). Some x) c.in-Value.is in (
-      (λ y. let m = c.have_common.ensures.0 y in record { left = m.number; right = m.number; in_left = m.in_left; in_right = m.in_right; paired = m.paired }),
-      (λ h.
-          let same = same_value G Q j d s h.left h.right at h.paired in
-          c.have_common.ensures.1 (record { number = h.left; in_left = h.in_left; in_right = subst (λ n. Contains c.args.ws.now n) (sym same) h.in_right; paired = left_alone G Q j d s h.left h.right h.paired })),
-    )
-
-pub have_paired-returns-in-Fixed : goal.have_paired-returns-in-Fixed
-have_paired-returns-in-Fixed t c =
-    let G = c.args.graph.now in
-    let Q = c.args.pattern.now in
-    let j = c.args.skipped in
-    let d = c.args.depth in
-    let s = c.args.s in
-    let k = c.in-Fixed.c in
-    let at : slice_get Q.slots s ≡ Some (Fixed k) = c.slot_at.ensures ∙ ap (λ (x : Slot). Some x) c.in-Fixed.is in (
-      (λ y. let m = c.have_constant.ensures.0 y in record { left = k; right = k; in_left = m.0; in_right = m.1; paired = m.2 }),
-      (λ h.
-          let same = same_constant G Q j d s h.left h.right k at h.paired in
-          c.have_constant.ensures.1 (
-            subst (λ n. Contains c.args.us.now n) same.0 h.in_left,
-            subst (λ n. Contains c.args.ws.now n) same.1 h.in_right,
-            subst (λ n. ArePairedExcept G Q j d s n n) same.0 (left_alone G Q j d s h.left h.right h.paired),
-          )),
-    )
 
 pub has_partner_among-loop-w-preserved : goal.has_partner_among-loop-w-preserved
 has_partner_among-loop-w-preserved t c = λ h.
@@ -146,12 +169,6 @@ has_partner_among-loop-w-preserved t c = λ h.
 
 pub have_any_paired-returns : goal.have_any_paired-returns
 have_any_paired-returns t c = (
-  (λ f. absurd (true≢false (sym f))),
-  (λ h. absurd (c.loop-u.invariant (subst (λ (names : List ℕ). HavePaired c.args.graph.now c.args.pattern.now c.args.skipped c.args.depth c.args.s names c.args.ws.now) (sym (take_all c.loop-u.u-index c.args.us.now c.loop-u-test.false)) h))),
-)
-
-pub have_few_paired-returns : goal.have_few_paired-returns
-have_few_paired-returns t c = (
   (λ f. absurd (true≢false (sym f))),
   (λ h. absurd (c.loop-u.invariant (subst (λ (names : List ℕ). HavePaired c.args.graph.now c.args.pattern.now c.args.skipped c.args.depth c.args.s names c.args.ws.now) (sym (take_all c.loop-u.u-index c.args.us.now c.loop-u-test.false)) h))),
 )
