@@ -14,7 +14,7 @@ use Rattle.gkey_cmd.proofs.counted.count_files.Goals as goal
 pub returns-in-Err : goal.returns-in-Err
 returns-in-Err g c =
     let n = c.in_ok-numbered.numbered in
-    let right = subst (λ K. IsRightStop n.graph K c.args.options.now.limit c.in-Err.stop) c.deref.ensures.value (rw c.in-Err.is at c.in-Err.ensures.stop) in
+    let right = subst (λ K. IsRightStop n.graph K c.args.options.now.limit c.in-Err.stop) c.deref.ensures.value c.in-Err.ensures.stop in
     λ triples s.
     let is = c.in_ok-numbered.ensures.numbered triples s in
     right_ending triples c.args.keys.now n.graph n.names n.patterns.items is.names is.graph is.patterns c.law_rows.ensures.candidate c.args.options.now.limit c.chase_ending.result
@@ -42,8 +42,8 @@ returns g c =
     let ground = c.in_ok-_names.finished.ground in
     let told = c.in_ok-line.ensures in
     let limit = c.args.options.now.limit in
-    let rise = subst (λ (G : NumberedGraph). IsStrictlySortedBy (slice_cmp nat_cmp) G.rows) c.graph.ensures c.rows-_ascending.ensures.ascending in
-    let counted = subst (λ K. IsCandidateCount n.graph K c.in-Ok.pairs) c.deref.ensures.value (rw c.in-Ok.is at c.in-Ok.ensures.count) in
+    let rise = subst (λ (G : NumberedGraph). IsStrictlySortedBy (slice_cmp nat_cmp) G.rows) c.graph.ensures c.rows-ascending.ensures.ascending in
+    let counted = subst (λ K. IsCandidateCount n.graph K c.in-Ok.pairs) c.deref.ensures.value c.in-Ok.ensures.count in
     let pairs = subst (λ G. IsCandidateCount G ground.patterns c.in-Ok.pairs) (sym chased.graph) (subst (λ K. IsCandidateCount n.graph K c.in-Ok.pairs) (sym chased.patterns) counted) in
     λ triples s.
     let is = c.in_ok-numbered.ensures.numbered triples s in

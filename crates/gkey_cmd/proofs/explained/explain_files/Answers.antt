@@ -3,6 +3,7 @@ use Rattle.std.proofs.Common.{map, length, ◌∙◌, sym, ap, subst}
 use Rattle.std.proofs.lemmas.List.{length-map}
 use Rattle.std.proofs.lemmas.Option.{slice_get_within}
 use Rattle.std.proofs.lemmas.Result.{err_from_is_err_and}
+use Rattle.chase_laws.specs.Chase.{AreSame}
 use Rattle.key_file.specs.KeyShape.{KeyShape}
 use Rattle.key_file.specs.Compile.{shape_of}
 use Rattle.gkey_cmd.specs.WhyParts.{TellsPair}
@@ -79,7 +80,7 @@ returns-in-Some g c =
     let ground = c.in_ok-names.finished.ground in
     let text = c.in-Some.text.items in
     let names = c.in_ok-names.names in
-    let here = subst (λ ks. TellsPair ground.graph ground.patterns names (map (λ (k : KeyShape). k.name) ks) a b text) c.keys.ensures.keys (rw c.in-Some.is at ?) in
+    let here = subst (λ ks. TellsPair ground.graph ground.patterns names (map (λ (k : KeyShape). k.name) ks) a b text) c.keys.ensures.keys (rw c.in-Some.is at c.in_ok-text.ensures.told) in
     let by_names = subst (λ ns. TellsPair ground.graph ground.patterns ns (map (λ (k : KeyShape). k.name) keys) a b text) chased.names here in
     let by_graph = subst (λ G. TellsPair G ground.patterns n.names (map (λ (k : KeyShape). k.name) keys) a b text) chased.graph by_names in
     let told = subst (λ K. TellsPair n.graph K n.names (map (λ (k : KeyShape). k.name) keys) a b text) chased.patterns by_graph in
@@ -98,4 +99,22 @@ returns-in_err-not_the_same-in-None g c =
     rw (p.1, p.2) (λ triples s. tt)
 
 pub returns : goal.returns
-returns g c = ?
+returns g c =
+    let n = c.in_ok-numbered.numbered in
+    let keys = c.args.keys.now in
+    let first = c.args.words.0.now in
+    let second = c.args.words.1.now in
+    let a = c.in_ok-pair.pair.0 in
+    let b = c.in_ok-pair.pair.1 in
+    let x = c.in_ok-pair.ensures.0 in
+    let y = c.in_ok-pair.ensures.1 in
+    let chased = c.in_ok-names.ensures in
+    let ground = c.in_ok-names.finished.ground in
+    let by_graph = subst (λ G. ¬ (AreSame G ground.patterns a b)) chased.graph (rw c.in-None.is at c.in_ok-text.ensures.apart) in
+    let apart = subst (λ K. ¬ (AreSame n.graph K a b)) chased.patterns by_graph in
+    λ triples s.
+    let is = c.in_ok-numbered.ensures.numbered triples s in (
+      two_named triples keys n.graph n.names n.patterns.items is.names is.graph is.patterns first second a b x y,
+      not_too_many triples keys n.graph n.names n.patterns.items is.names is.graph is.patterns c.law_rows.ensures.candidate c.args.options.now.limit chased.no_more,
+      (are_apart triples keys n.graph n.names n.patterns.items is.names is.graph is.patterns c.law_rows.ensures.same first second a b x y apart, c.in_ok-not_the_same-in-None.ensures),
+    )

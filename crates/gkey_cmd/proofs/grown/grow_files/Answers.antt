@@ -11,14 +11,14 @@ returns-in-Err g c =
     λ triples s.
     let is = c.in_ok-growth.ensures.numbered triples s in
     right_ending triples c.args.keys.now n.both n.names n.patterns.items is.names is.both is.patterns c.law_rows.ensures.candidate c.args.options.now.limit c.chase_ending.result
-    (c.in-Err.stop, (rw c.in-Err.is at c.in-Err.ensures.stop), c.chase_ending.ensures)
+    (c.in-Err.stop, c.in-Err.ensures.stop, c.chase_ending.ensures)
 
 pub report-requires-after_bounds : goal.report-requires-after_bounds
 report-requires-after_bounds g c κs within =
     let n = c.in_ok-growth.growth in
     let t = c.requires.few in
     let is = c.in_ok-growth.ensures.numbered t.0 t.1 in
-    ap length c.deref.ensures.value ∙ (rw c.in-Ok.is at c.in-Ok.ensures.classes).count ∙ has_names t.0 c.args.keys.now n.both n.names n.patterns.items is.names is.both is.patterns
+    ap length c.deref.ensures.value ∙ c.in-Ok.ensures.classes.count ∙ has_names t.0 c.args.keys.now n.both n.names n.patterns.items is.names is.both is.patterns
 
 pub returns-in_err-report : goal.returns-in_err-report
 returns-in_err-report g c =
@@ -29,10 +29,10 @@ returns-in_err-report g c =
 pub returns : goal.returns
 returns g c =
     let n = c.in_ok-growth.growth in
-    let classes = subst (AreClasses n.both n.patterns.items) (sym c.deref.ensures.value) (rw c.in-Ok.is at c.in-Ok.ensures.classes) in
+    let classes = subst (AreClasses n.both n.patterns.items) (sym c.deref.ensures.value) c.in-Ok.ensures.classes in
     λ triples s.
     let is = c.in_ok-growth.ensures.numbered triples s in (
       report_is triples c.args.keys.now n.both n.names n.patterns.items is.names is.both is.patterns c.law_rows.ensures.same
           c.deref.result.now c.into_vec.result.items classes (c.into_vec.ensures ∙ c.in_ok-report.ensures),
-      not_too_many triples c.args.keys.now n.both n.names n.patterns.items is.names is.both is.patterns c.law_rows.ensures.candidate c.args.options.now.limit (rw c.in-Ok.is at c.in-Ok.ensures.no_more),
+      not_too_many triples c.args.keys.now n.both n.names n.patterns.items is.names is.both is.patterns c.law_rows.ensures.candidate c.args.options.now.limit c.in-Ok.ensures.no_more,
     )
