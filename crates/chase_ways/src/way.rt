@@ -21,11 +21,25 @@ pub enum Way {
 /// Where there may be more candidate pairs a name, the chase goes by signatures.
 const PAIRS_A_NAME: u64 = 4;
 
+/// Where the way is not asked for, a chase by signatures may list so many valuations a name, and `MORE_ROWS` more.
+const ROWS_A_NAME: u64 = 16;
+
+/// So that small graphs are never told to have too many.
+const MORE_ROWS: u64 = 1 << 20;
+
 /// The way that serves a graph with so many names, in which there are at most so many candidate pairs, or too many to say.
 pub(crate) fn way_for(names: u32, most: Option<u64>) -> Way {
     match most {
         Some(pairs) if pairs <= PAIRS_A_NAME * names as u64 => Way::Pairs,
         _ => Way::Signatures,
+    }
+}
+
+/// How many valuations may be listed of a graph with so many names. Where a way is asked for, there is no end to it.
+pub(crate) fn most_rows(names: u32, way: Option<Way>) -> u64 {
+    match way {
+        Some(_) => u64::MAX,
+        None => ROWS_A_NAME * names as u64 + MORE_ROWS,
     }
 }
 

@@ -8,7 +8,7 @@ ghost use Rattle.pair_seed.specs.Pairs.{HasMoreCandidates};
 ghost use Rattle.pair_seed.specs.Stop.{IsRightStop};
 
 use crate::ground::Ground;
-use crate::way::{Way, check_limit, way_for};
+use crate::way::{Way, check_limit, most_rows, way_for};
 use chase_core::Matched;
 use chase_laws::{Entry, Pattern, all_valid};
 use gk_base::NoMemory;
@@ -33,7 +33,7 @@ pub struct Finished {
     pub journal: Vec<Entry>,
 }
 
-/// The chase of a graph by signatures, which begins with what is given.
+/// The chase of a graph by signatures, which begins with what is given. None where the valuations are more than `most`, or may be.
 pub(crate) fn by_signatures<R: Threads + Sync>(
     rt: &R,
     alloc: Global,
@@ -41,17 +41,21 @@ pub(crate) fn by_signatures<R: Threads + Sync>(
     graph: &Graph,
     patterns: &[Pattern],
     given: &[Entry],
-) -> Result<Chased, NoMemory>
+    most: u64,
+) -> Result<Option<Chased>, NoMemory>
     requires derivation { IsDerivation graph.now patterns.now given.now }
     requires lean { IsLean given.now }
-    ensures begins { IfOk result (λ c. (more : List Entry) × (c.journal.items ≡ given.now ++ more)) }
-    ensures journal { IfOk result (λ c. IsFinishedJournal graph.now patterns.now c.journal.items) }
-    ensures classes { IfOk result (λ c. AreClasses graph.now patterns.now c.labels.items) }
+    ensures begins { IfOk result (λ answer. IfSome answer (λ c. (more : List Entry) × (c.journal.items ≡ given.now ++ more))) }
+    ensures journal { IfOk result (λ answer. IfSome answer (λ c. IsFinishedJournal graph.now patterns.now c.journal.items)) }
+    ensures classes { IfOk result (λ answer. IfSome answer (λ c. AreClasses graph.now patterns.now c.labels.items)) }
 {
     // A fact for the proof: patterns are valid.
     all_valid(patterns);
-    let groups = list_valuations(rt, alloc, threads, graph, patterns)?;
-    chase_by_signatures(alloc, graph, patterns, &groups, given)
+    let Some(groups) = list_valuations(rt, alloc, threads, graph, patterns, most)? else {
+        return Ok(None);
+    };
+    let chased = chase_by_signatures(alloc, graph, patterns, &groups, given)?;
+    Ok(Some(chased))
 }
 
 /// The chase of a graph by candidate pairs.
@@ -84,39 +88,35 @@ fn chase_pairs<R: Threads + Wait + Sync, G: Gate>(
     })
 }
 
-/// The chase of a graph by signatures, where at most so many candidate pairs are known to be.
+/// The chase of a graph by signatures, where at most so many candidate pairs are known to be. None where the valuations are more
+/// than `rows`, or may be.
 fn chase_signatures<R: Threads + Sync>(
     rt: &R,
     alloc: Global,
     threads: u32,
-    graph: Graph,
-    patterns: Vec<Pattern>,
+    graph: &Graph,
+    patterns: &[Pattern],
     most: Option<u64>,
     limit: u64,
-) -> Result<Finished, SeedStop>
+    rows: u64,
+) -> Result<Option<Chased>, SeedStop>
     requires limit { limit < 2 ^ 32 }
-    requires most { IfSome most (λ n. ¬ (HasMoreCandidates graph patterns.items limit)) }
-    ensures graph { IfOk result (λ f. f.ground.graph ≡ graph) }
-    ensures patterns { IfOk result (λ f. f.ground.patterns ≡ patterns.items) }
-    ensures journal { IfOk result (λ f. IsFinishedJournal graph patterns.items f.journal.items) }
-    ensures classes { IfOk result (λ f. AreClasses graph patterns.items f.labels.items) }
-    ensures no_more { OnOk result (¬ (HasMoreCandidates graph patterns.items limit)) }
-    ensures stop { IfErr result (IsRightStop graph patterns.items limit) }
+    requires most { IfSome most (λ n. ¬ (HasMoreCandidates graph.now patterns.now limit)) }
+    ensures journal { IfOk result (λ answer. IfSome answer (λ c. IsFinishedJournal graph.now patterns.now c.journal.items)) }
+    ensures classes { IfOk result (λ answer. IfSome answer (λ c. AreClasses graph.now patterns.now c.labels.items)) }
+    ensures no_more { OnOk result (¬ (HasMoreCandidates graph.now patterns.now limit)) }
+    ensures stop { IfErr result (IsRightStop graph.now patterns.now limit) }
 {
-    check_limit(alloc, &graph, &patterns, most, limit)?;
-    let Chased { labels, journal } = by_signatures(rt, alloc, threads, &graph, &patterns, &[])?;
-    let ground = Ground::new(graph, patterns);
-    Ok(Finished {
-        ground,
-        labels,
-        journal,
-    })
+    check_limit(alloc, graph, patterns, most, limit)?;
+    let chased = by_signatures(rt, alloc, threads, graph, patterns, &[], rows)?;
+    Ok(chased)
 }
 
 /// Chases a graph by the keys' patterns to its end, in the way that is asked for, or where none is in the one that serves the
-/// graph. The labels are equal exactly where two names are the same, and the journal is a lean derivation beyond which no step
-/// goes. `workers` says how many threads may be used, 1 to 64; by pairs as many workers chase, each of which passes the gate
-/// before each search, and by signatures none passes it.
+/// graph. A chase by signatures goes on by pairs where there are too many valuations, unless signatures are asked for. The labels
+/// are equal exactly where two names are the same, and the journal is a lean derivation beyond which no step goes. `workers` says
+/// how many threads may be used, 1 to 64; by pairs as many workers chase, each of which passes the gate before each search, and
+/// by signatures none passes it.
 ///
 /// `TooManyPairs` comes exactly where there are more candidate pairs than `limit`, and `NoMemory` where memory ran out.
 pub fn chase_graph<R: Threads + Wait + Sync, G: Gate>(
@@ -140,8 +140,17 @@ pub fn chase_graph<R: Threads + Wait + Sync, G: Gate>(
     ensures stop { IfErr result (IsRightStop graph patterns.items limit) }
 {
     let most = bound_candidates(alloc, &graph, &patterns, limit)?;
-    match way.unwrap_or(way_for(graph.names(), most)) {
-        Way::Pairs => chase_pairs(rt, alloc, workers, graph, patterns, limit, gate),
-        Way::Signatures => chase_signatures(rt, alloc, workers, graph, patterns, most, limit),
+    if let Way::Signatures = way.unwrap_or(way_for(graph.names(), most)) {
+        let rows = most_rows(graph.names(), way);
+        let chased = chase_signatures(rt, alloc, workers, &graph, &patterns, most, limit, rows)?;
+        if let Some(Chased { labels, journal }) = chased {
+            let ground = Ground::new(graph, patterns);
+            return Ok(Finished {
+                ground,
+                labels,
+                journal,
+            });
+        }
     }
+    chase_pairs(rt, alloc, workers, graph, patterns, limit, gate)
 }

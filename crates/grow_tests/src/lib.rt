@@ -6,6 +6,7 @@
 //! - `counting`: a gate that counts
 //! - `alike`: journals and labels, compared
 //! - `growths`: the tests
+//! - `ways`: growth in both ways
 #![tactic(auto)]
 
 #[cfg(test)]
@@ -18,3 +19,5 @@ mod counting;
 mod graphs;
 #[cfg(test)]
 mod growths;
+#[cfg(test)]
+mod ways;

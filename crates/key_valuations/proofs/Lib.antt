@@ -7,3 +7,4 @@ mod ListingLaws
 mod MarkLaws
 mod Moves
 mod PartLaws
+mod RunLaws

@@ -223,22 +223,6 @@ module _ (G : NumberedGraph) (Q : Shape) where
     every = λ v b. x.every v (a v b);
   }
 
-  pub some_then : (A B C : List ℕ → Type 0) (old mid new : KeyRows) → AddsSome G Q A old mid → AddsSome G Q B mid new → ((v : List ℕ) → C v → A v ⊎ B v) → AddsSome G Q C old new
-  some_then A B C old mid new first second split = record {
-    key = second.key ∙ first.key;
-    value_count = second.value_count ∙ first.value_count;
-    image_count = second.image_count ∙ first.image_count;
-    kept = λ p h. second.kept p (first.kept p h);
-    only = λ p h. elim (second.only p h) [
-      | inl m ↦ first.only p m
-      | inr y ↦ inr (y.0, y.1, subst (λ (key : ℕ). p ≡ parts_of G key Q y.0) first.key y.2)
-    ];
-    every = λ v c. elim (split v c) [
-      | inl x ↦ second.kept (parts_of G old.key Q v) (first.every v x)
-      | inr y ↦ subst (λ (key : ℕ). Contains new.parts (parts_of G key Q v)) first.key (second.every v y)
-    ];
-  }
-
 -- rows keep how many values and images they have
 pub counts_kept : (Q : Shape) (old new : KeyRows) → new.value_count ≡ old.value_count → new.image_count ≡ old.image_count → HasCounts Q old.value_count old.image_count → HasCounts Q new.value_count new.image_count
 counts_kept Q old new e f h = λ G v. ((h G v).0 ∙ sym e, (h G v).1 ∙ sym f)

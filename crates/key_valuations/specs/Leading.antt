@@ -4,7 +4,6 @@ use Rattle.chase_laws.specs.declared.pattern.Slot.TheVariants.{Value, Folded}
 use Rattle.chase_laws.specs.declared.pattern.Edge.{Edge}
 use Rattle.chase_laws.specs.Shape.{Shape}
 use Rattle.chase_laws.specs.Graph.{NumberedGraph, HasRow}
-use Rattle.chase_laws.specs.Valuation.{IsValuation}
 use Rattle.chase_laws.specs.Signature.{SignatureParts}
 use Rattle.valuation_groups.specs.Rows.{KeyRows}
 use Rattle.key_valuations.specs.Listing.{AreAlikeInValues}
@@ -48,8 +47,3 @@ pub record AddsLed (G : NumberedGraph) (leading : List Leading) (Passes : List �
   pub image_count : new.image_count ≡ old.image_count
   pub kept : (p : SignatureParts) → Contains old.parts p → Contains new.parts p
   pub every : (v : List ℕ) → Passes v → Contains new.parts (leading_parts G leading old.key v)
-
--- a valuation whose leading values and name are those of a row
-pub record IsAtRow (G : NumberedGraph) (Q : Shape) (leading : List Leading) (key : ℕ) (rows : List SignatureParts) (v : List ℕ) : Type 0 where
-  pub valuation : IsValuation G Q v
-  pub among : Contains rows (leading_parts G leading key v)

@@ -6,3 +6,4 @@ pub mod Marks
 pub mod Counts
 pub mod Listing
 pub mod Leading
+pub mod Search

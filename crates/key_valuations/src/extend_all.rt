@@ -6,6 +6,7 @@ ghost use Rattle.key_valuations.specs.Counts.{HasCounts};
 ghost use Rattle.key_valuations.specs.Listing.{AreBareFrom, IsBare, AddsParts, IsReached};
 ghost use Rattle.key_valuations.specs.Marks.{IsMarkedPart};
 
+use crate::budget::RowStop;
 use crate::choices::{choices, only_one};
 use crate::complete::complete;
 use crate::find::by_slots;
@@ -13,7 +14,6 @@ use crate::fits::goes_on_marked;
 use crate::marks::mark_of;
 use crate::parts::{Lists, add_row};
 use chase_laws::{Pattern, Places, Slot};
-use gk_base::NoMemory;
 use key_plan::Plan;
 use typed_graph::Graph;
 use valuation_groups::ValuationRows;
@@ -50,9 +50,9 @@ fn add_completion(
     plan: &Plan,
     marks: &[Option<u32>],
     places: &Places,
-    lists: &mut Lists,
+    lists: &mut Lists<'_>,
     rows: &mut ValuationRows,
-) -> Result<(), NoMemory>
+) -> Result<(), RowStop>
     requires plan { IsPlanOf pattern.now plan.now }
     requires marks { length plan.now.shape.slots ≤ length marks.now }
     requires begun { 0 < length places.now }
@@ -81,9 +81,9 @@ pub(crate) fn extend_all(
     marks: &[Option<u32>],
     bare: usize,
     places: &mut Places,
-    lists: &mut Lists,
+    lists: &mut Lists<'_>,
     rows: &mut ValuationRows,
-) -> Result<(), NoMemory>
+) -> Result<(), RowStop>
     requires plan { IsPlanOf pattern.now plan.now }
     requires marks { length plan.now.shape.slots ≤ length marks.now }
     requires begun { 0 < length places.old }

@@ -8,8 +8,11 @@ ghost use Rattle.chase_laws.specs.Graph.{NumberedGraph, IsLiteral};
 ghost use Rattle.key_plan.specs.Route.{IsPlanOf};
 ghost use Rattle.key_valuations.specs.Leading.{IsLeading, leading_value, leading_values, leading_parts, IsLed, IsLedBy, IsAloneAt, AddsLed};
 ghost use Rattle.key_valuations.specs.Marks.{AreMarkedBySlots};
+ghost use Rattle.key_valuations.specs.Search.{IsSearch, AreLeadsOf};
 
+use crate::budget::{Budget, RowStop};
 use crate::marks::{no_marks, slot_at};
+use crate::search::KeySearch;
 use chase_laws::{Pattern, Slot};
 use gk_base::NoMemory;
 use key_plan::Plan;
@@ -132,8 +135,9 @@ fn add_choices(
     at: usize,
     name: u32,
     values: &mut Vec<u32>,
+    budget: &Budget,
     rows: &mut ValuationRows,
-) -> Result<(), NoMemory>
+) -> Result<(), RowStop>
     requires leading { All (IsLeading pattern.now) leading.now }
     requires at { at ≡ length values.old.items }
     requires within { at ≤ length leading.now }
@@ -146,6 +150,7 @@ fn add_choices(
     let _ = pattern;
     if at >= leading.len() {
         rows.push(values, name, &[])?;
+        budget.count_batch(rows)?;
         return Ok(());
     }
     let lead = lead_at(leading, at);
@@ -156,7 +161,7 @@ fn add_choices(
         }
         let value = value_of(graph, lead, *literal);
         values.push(value)?;
-        add_choices(graph, pattern, leading, at + 1, name, values, rows)?;
+        add_choices(graph, pattern, leading, at + 1, name, values, budget, rows)?;
         values.truncate(at);
     }
     Ok(())
@@ -165,23 +170,29 @@ fn add_choices(
 /// Rows of leading values, one for each choice of them at each of some names, but for choices that no other name may have.
 pub(crate) fn leading_rows(
     alloc: Global,
-    graph: &Graph,
-    pattern: &Pattern,
-    leading: &[Leading],
-    key: u32,
+    search: &KeySearch<'_>,
     names: &[u32],
-) -> Result<ValuationRows, NoMemory>
-    requires leading { All (IsLeading pattern.now) leading.now }
-    requires few { length leading.now ≤ 16 }
-    ensures key { IfOk result (λ rows. rows.key ≡ key) }
-    ensures value_count { IfOk result (λ rows. rows.value_count ≡ length leading.now) }
-    ensures every { IfOk result (λ rows. (v : List ℕ) → IsLed graph.now pattern.now v → Contains names.now (slice_index v 0) → Contains rows.parts (leading_parts graph.now leading.now key v)) }
+) -> Result<ValuationRows, RowStop>
+    requires search { IsSearch search.now }
+    ensures { IfOk result (AreLeadsOf search.now names.now) }
 {
-    let mut rows = ValuationRows::new(alloc, key, leading.len(), 0);
+    let leading = search.leading;
+    let budget = search.budget;
+    let mut rows = ValuationRows::new(alloc, search.key, leading.len(), 0);
     let mut values = Vec::new(alloc);
     for name in names {
-        add_choices(graph, pattern, leading, 0, *name, &mut values, &mut rows)?;
+        add_choices(
+            search.graph,
+            search.pattern,
+            leading,
+            0,
+            *name,
+            &mut values,
+            budget,
+            &mut rows,
+        )?;
     }
+    budget.count_rest(&rows)?;
     Ok(rows)
 }
 

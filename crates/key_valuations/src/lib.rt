@@ -9,9 +9,14 @@
 //! - `leading`: the values next to slot 0, by which names are left out at once
 //! - `parts`: the parts of a valuation as a row
 //! - `extend_all`: all choices at the slots behind a list
+//! - `budget`: how many rows may be made
+//! - `search`: what the valuations of a key are looked for with
+//! - `runs`: the valuations at a run of leading values
+//! - `threads`: rows by threads
 //! - `list`: the valuations of all keys whose values another name has, too
 #![tactic(auto)]
 
+mod budget;
 mod choices;
 mod complete;
 mod extend_all;
@@ -21,6 +26,9 @@ mod leading;
 mod list;
 mod marks;
 mod parts;
+mod runs;
+mod search;
+mod threads;
 
 pub use find::find_valuation;
 pub use list::list_valuations;

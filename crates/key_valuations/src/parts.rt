@@ -6,6 +6,7 @@ ghost use Rattle.chase_laws.specs.Valuation.{FitsSlot, IsValuation};
 ghost use Rattle.chase_laws.specs.Signature.{value_at, image_at, parts_of};
 ghost use Rattle.key_valuations.specs.Counts.{HasCounts};
 
+use crate::budget::{Budget, RowStop};
 use crate::marks::slot_at;
 use chase_laws::{Pattern, Places, Slot};
 use gk_base::NoMemory;
@@ -13,19 +14,21 @@ use std::alloc::Global;
 use typed_graph::Graph;
 use valuation_groups::ValuationRows;
 
-/// Values and images of one valuation, which are made again for each row.
+/// Values and images of one valuation, which are made again for each row, and the count of the rows.
 #[derive(Drop)]
-pub(crate) struct Lists {
+pub(crate) struct Lists<'a> {
     values: Vec<u32>,
     images: Vec<u32>,
+    budget: &'a Budget,
 }
 
-impl Lists {
+impl<'a> Lists<'a> {
     /// Empty lists.
-    pub(crate) fn new(alloc: Global) -> Lists {
+    pub(crate) fn new(alloc: Global, budget: &'a Budget) -> Lists<'a> {
         Lists {
             values: Vec::new(alloc),
             images: Vec::new(alloc),
+            budget,
         }
     }
 }
@@ -76,7 +79,13 @@ pub(crate) fn counts_of(pattern: &Pattern) -> Counts
 }
 
 /// Adds the value and the image of a name at slot `s`, as far as there are.
-fn add_part(graph: &Graph, slot: Slot, s: usize, n: u32, lists: &mut Lists) -> Result<(), NoMemory>
+fn add_part(
+    graph: &Graph,
+    slot: Slot,
+    s: usize,
+    n: u32,
+    lists: &mut Lists<'_>,
+) -> Result<(), NoMemory>
     requires { FitsSlot graph.now slot n }
     ensures values { OnOk result (lists.new.values.items ≡ lists.old.values.items ++ value_at graph.now (Some slot) n) }
     ensures images { OnOk result (lists.new.images.items ≡ lists.old.images.items ++ image_at s (Some slot) n) }
@@ -94,14 +103,14 @@ fn add_part(graph: &Graph, slot: Slot, s: usize, n: u32, lists: &mut Lists) -> R
     Ok(())
 }
 
-/// Adds a row of the parts of a valuation. What stood in the lists before is dropped.
+/// Adds a row of the parts of a valuation, and counts it. What stood in the lists before is dropped.
 pub(crate) fn add_row(
     graph: &Graph,
     pattern: &Pattern,
     valuation: &Places,
-    lists: &mut Lists,
+    lists: &mut Lists<'_>,
     rows: &mut ValuationRows,
-) -> Result<(), NoMemory>
+) -> Result<(), RowStop>
     requires valuation { IsValuation graph.now pattern.now valuation.now }
     requires counts { HasCounts pattern.now rows.old.value_count rows.old.image_count }
     ensures { OnOk result (rows.new ≡ record rows.old { parts = rows.old.parts ++ parts_of graph.now rows.old.key pattern.now valuation.now ∷ [] }) }
@@ -113,5 +122,6 @@ pub(crate) fn add_row(
         add_part(graph, slot_at(pattern, s), s, valuation.get(s), lists)?;
     }
     rows.push(&lists.values, valuation.get(0), &lists.images)?;
+    lists.budget.count_batch(rows)?;
     Ok(())
 }

@@ -4,7 +4,7 @@ use Rattle.key_valuations.specs.Listing.{IsReached, IsAt, AddsParts}
 use Rattle.key_valuations.proofs.Moves.{ready, begins, in_order}
 use Rattle.key_valuations.proofs.FindLaws.{placed_valuation, ordered_begins, ordered_placed}
 use Rattle.key_valuations.proofs.ListingLaws.{some_none, some_of_all}
-use Rattle.key_valuations.proofs.list.add_at.Goals as goal
+use Rattle.key_valuations.proofs.runs.add_at.Goals as goal
 
 pub begin-requires-clause-ready : goal.begin-requires-clause-ready
 begin-requires-clause-ready c = ready c.args.pattern.now c.args.plan.now c.slots.ensures.facts c.requires.plan

@@ -7,7 +7,7 @@ use Rattle.chase_laws.specs.Graph.{NumberedGraph}
 use Rattle.chase_laws.specs.Signature.{SignatureParts}
 use Rattle.valuation_groups.specs.Groups.{GroupShape, listed_of, AreApart}
 use Rattle.key_valuations.proofs.GroupLaws.{AreListedTo, apart_none, listed_none, listed_more, listed_all}
-use Rattle.key_valuations.proofs.list.list_valuations.Goals as goal
+use Rattle.key_valuations.proofs.list.list_within.Goals as goal
 
 abbrev IsInv : NumberedGraph → List Shape → List GroupShape → Type 0
 IsInv G K groups = record { listed : AreListedTo G K 0 (listed_of groups); apart : AreApart groups; keys : All (λ (group : GroupShape). group.key < 0) groups }
