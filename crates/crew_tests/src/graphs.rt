@@ -1,5 +1,5 @@
-//! Graphs of names of type 1: so many pairs, of which both names have one literal under 2 that no other has, or a crowd of names
-//! that all have one, or threes of names that are the same.
+//! Graphs of names of type 1: so many pairs, of which both names have one literal under 2 that no other has, or threes of names
+//! that are the same.
 
 use crate::ENOUGH;
 use chase_laws::Slot;
@@ -16,9 +16,6 @@ pub enum Kind {
     Alone,
     /// Only the last has, and each other leads to the next under 3 and needs that to be the same.
     Chain,
-    /// A crowd of so many names, of which each leads to one of its own under 3. The first two of these are found to be the same
-    /// by a literal under 4, and so the first two of the crowd are.
-    Crowd,
     /// So many threes of names with one literal under 4 that no other has, and behind each three pairs with one of their own. So
     /// each pair is found, and two of the three of three names imply the third one.
     Threes,
@@ -86,31 +83,6 @@ fn pairs_of(alloc: Global, is_chain: bool, count: u32) -> Result<Table, AllocErr
     })
 }
 
-/// A crowd of so many names. The literals are 5 and 6.
-fn crowd_of(alloc: Global, count: u32) -> Result<Table, AllocError> {
-    let mut rows = Vec::new(alloc);
-    let mut literals = Vec::new(alloc);
-    literals.push(5)?;
-    literals.push(6)?;
-    let mut names = 7u32;
-    for i in 0..count {
-        let next = names.wrapping_add(1);
-        rows.push([names, 0, 1])?;
-        rows.push([names, 2, 5])?;
-        rows.push([names, 3, next])?;
-        rows.push([next, 0, 1])?;
-        if i < 2 {
-            rows.push([next, 4, 6])?;
-        }
-        names = names.wrapping_add(2);
-    }
-    Ok(Table {
-        rows,
-        literals,
-        names,
-    })
-}
-
 /// So many threes of names, each with its literal after it, and three pairs behind each.
 fn threes_of(alloc: Global, count: u32) -> Result<Table, AllocError> {
     let mut rows = Vec::new(alloc);
@@ -139,7 +111,6 @@ fn table_of(alloc: Global, kind: Kind, count: u32) -> Result<Table, AllocError> 
     match kind {
         Kind::Alone => pairs_of(alloc, false, count),
         Kind::Chain => pairs_of(alloc, true, count),
-        Kind::Crowd => crowd_of(alloc, count),
         Kind::Threes => threes_of(alloc, count),
     }
 }
