@@ -13,11 +13,10 @@ ghost use Rattle.steal_pool.specs.declared.workspace.Progress.TheVariants.{Free}
 ghost use Rattle.steal_pool.specs.Workspaces.{IsPlace, IsOwnDeque, IsWorkspace, ReachEach, Thief};
 ghost use Rattle.label_board.specs.Seen.{SeenBoard};
 ghost use Rattle.steal_pool.specs.Bases.{IsSince, board_over};
-ghost use Rattle.steal_pool.specs.Batches.{IsJob, IsThrough, SettlesBy, pair_in};
+ghost use Rattle.steal_pool.specs.Batches.{IsJob, IsSearched, SettlesBy, pair_in};
 
 use crate::hints::Thief;
 use crate::hunt::{keep_woken, next_hint, own_hint};
-use crate::implied::settle_implied;
 use crate::pace::Settlement;
 use crate::shared::Shared;
 use crate::workspace::{Job, Progress, Workspace};
@@ -130,8 +129,8 @@ fn settle_missed(
     is_wasted(settled)
 }
 
-/// Settles a job that was searched or passed over, and keeps what that wakes. Another job stays as it is. It answers whether a
-/// search was for nothing.
+/// Settles a job that was searched, and keeps what that wakes. Another job stays as it is. It answers whether the search was for
+/// nothing.
 #[inline]
 fn settle_job(
     shared: &mut Shared<'_>,
@@ -149,7 +148,7 @@ fn settle_job(
     requires pending { All (λ p. p < count) pending.old.items }
     requires count { length shared.old.chase.setup.task.pairs ≡ count }
     ensures settles { SettlesBy shared.old.chase job.new.view.pairs job.old.finding job.old.progress shared.new.chase job.new.progress }
-    ensures settled { ¬ (IsThrough job.new.progress) }
+    ensures settled { ¬ (IsSearched job.new.progress) }
     ensures setup { shared.new.chase.setup ≡ shared.old.chase.setup }
     ensures board { shared.new.scribe.board ≡ shared.old.scribe.board }
     ensures grows { (more : List Entry) × (shared.new.chase.book.journal ≡ shared.old.chase.book.journal ++ more) }
@@ -162,10 +161,6 @@ fn settle_job(
         Progress::Missed(ticket) => settle_missed(shared, board, job, ticket, spare, woken),
         Progress::Found(ticket) => {
             settle_found(shared, board, job, ticket, woken, pending, count)
-        }
-        Progress::Implied(ticket) => {
-            settle_implied(shared, job, ticket);
-            false
         }
         Progress::Taken(_) => false,
         Progress::Free => false,
@@ -189,7 +184,7 @@ fn settle_all(
     requires spare { shared.old.chase.setup.widest ≤ spare.old.room }
     requires pending { All (λ p. p < count) pending.old.items }
     requires count { length shared.old.chase.setup.task.pairs ≡ count }
-    ensures settled { (k : ℕ) (d : Job) → k < used → k < length jobs.old → ¬ (IsThrough (slice_index_or jobs.new k d).progress) }
+    ensures settled { (k : ℕ) (d : Job) → k < used → k < length jobs.old → ¬ (IsSearched (slice_index_or jobs.new k d).progress) }
     ensures setup { shared.new.chase.setup ≡ shared.old.chase.setup }
     ensures board { shared.new.scribe.board ≡ shared.old.scribe.board }
     ensures grows { (more : List Entry) × (shared.new.chase.book.journal ≡ shared.old.chase.book.journal ++ more) }
@@ -257,7 +252,6 @@ fn fill_job(shared: &mut Shared<'_>, board: &Board, job: &mut Job, hint: Option<
         Progress::Taken(_) => true,
         Progress::Missed(_) => true,
         Progress::Found(_) => true,
-        Progress::Implied(_) => true,
     }
 }
 
@@ -428,7 +422,6 @@ pub fn settle_and_take(
     board: &Board,
     thieves: &[Thief],
     others: bool,
-    crowded: bool,
     lone: bool,
 ) -> Next
     requires board { board_over shared.old.chase.setup shared.old.scribe.board ≡ board.now }
@@ -462,7 +455,6 @@ pub fn settle_and_take(
         settled,
         wasted,
         woke,
-        crowded,
         class: last_class(shared),
     };
     note_turn(workspace, turn);

@@ -22,8 +22,6 @@ pub struct Settlement {
     pub wasted: usize,
     /// Whether it woke pairs.
     pub woke: bool,
-    /// Whether several workers were of no use in the turns before, as all workers count them.
-    pub crowded: bool,
     /// How many names are in the class that the last entry of all made.
     pub class: usize,
 }
@@ -46,12 +44,6 @@ impl Settlement {
 pub struct Pace {
     /// How many steps of a chain the last turns were.
     steps: u32,
-    /// Whether several workers were of no use in the turns before the last.
-    crowded: bool,
-    /// How many pairs the last turn settled.
-    pub settled: usize,
-    /// How many of these came to an entry, or were searched for nothing.
-    pub spent: usize,
     /// How many entries all its turns made.
     entered: usize,
     /// About how many labels the posts of these entries wrote.
@@ -72,9 +64,6 @@ impl Pace {
     pub fn new() -> Pace {
         Pace {
             steps: 0,
-            crowded: false,
-            settled: 0,
-            spent: 0,
             entered: 0,
             written: 0,
             seen: 0,
@@ -87,9 +76,6 @@ impl Pace {
         let is_step = self.woke && turn.entered() > 0 && turn.found == self.seen;
         Pace {
             steps: counted(self.steps, is_step),
-            crowded: turn.crowded,
-            settled: turn.settled,
-            spent: turn.entered().saturating_add(turn.wasted),
             entered: self.entered.saturating_add(turn.entered()),
             written: self
                 .written
@@ -106,6 +92,6 @@ impl Pace {
 
     /// Whether the worker is to go on alone.
     pub fn is_alone(&self) -> bool {
-        self.steps >= ALONE || self.crowded || self.writes_much()
+        self.steps >= ALONE || self.writes_much()
     }
 }

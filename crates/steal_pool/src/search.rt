@@ -9,9 +9,8 @@ ghost use Rattle.chase_core.specs.Settling.{IsFoundBy};
 ghost use Rattle.label_board.specs.Seen.{SeenBoard};
 ghost use Rattle.steal_pool.specs.Bases.{IsSince};
 ghost use Rattle.steal_pool.specs.Workspaces.{IsPlace};
-ghost use Rattle.steal_pool.specs.Batches.{ComesTo, IsJob, PassesOver, SearchesBy};
+ghost use Rattle.steal_pool.specs.Batches.{ComesTo, IsJob, SearchesBy};
 
-use crate::implied::pass_over;
 use crate::workspace::{Job, Progress};
 use chase_core::{Outcome, Setup, Ticket, outcome_of};
 use label_board::{Board, Watcher};
@@ -56,7 +55,7 @@ fn search_view(setup: &Setup, job: &mut Job, ticket: Ticket)
 }
 
 /// Searches for the pair of a job that was taken, by labels of the board. Another job stays as it is.
-fn search_job(setup: &Setup, board: &Board, job: &mut Job)
+pub fn search_job(setup: &Setup, board: &Board, job: &mut Job)
     requires place { IsPlace setup.now.widest board.now job.old }
     requires names { board.now.names ≡ name_count setup.now.task }
     requires job { (seen : List Entry) × IsJob setup.now.task seen job.old }
@@ -71,26 +70,7 @@ fn search_job(setup: &Setup, board: &Board, job: &mut Job)
         }
         Progress::Missed(_) => {}
         Progress::Found(_) => {}
-        Progress::Implied(_) => {}
         Progress::Free => {}
-    }
-}
-
-/// Searches for the pair of a job that was taken, by labels of the board, or passes it over where it is implied by what was found.
-/// Another job stays as it is.
-pub fn search_unless(setup: &Setup, board: &Board, job: &mut Job, is_implied: bool)
-    requires place { IsPlace setup.now.widest board.now job.old }
-    requires names { board.now.names ≡ name_count setup.now.task }
-    requires job { (seen : List Entry) × IsJob setup.now.task seen job.old }
-    ensures searches { IsFalse is_implied → SearchesBy setup.now.task job.new.view.pairs job.new.finding job.old.progress job.new.progress }
-    ensures passes { IsTrue is_implied → PassesOver job.old.progress job.new.progress }
-    ensures place { IsPlace setup.now.widest board.now job.new }
-    ensures job { (seen : List Entry) → IsJob setup.now.task seen job.old → IsJob setup.now.task seen job.new }
-{
-    if is_implied {
-        pass_over(job);
-    } else {
-        search_job(setup, board, job);
     }
 }
 

@@ -1,14 +1,12 @@
 //! The chase with the scribe of its board, as a value with a journal.
 
-ghost use Rattle.std.specs.Prelude.{◌≡◌, ◌≤◌, ◌++◌, ◌<◌, ◌^◌, ◌↔◌, ℕ, List, All, IfSome, IsFalse, IsTrue, MatchOption, length};
+ghost use Rattle.std.specs.Prelude.{◌≡◌, ◌≤◌, ◌++◌, ◌<◌, ◌^◌, ◌↔◌, ℕ, List, All, IfSome, IsTrue, MatchOption, length};
 ghost use Rattle.chase_laws.specs.declared.entry.Entry.{Entry};
 ghost use Rattle.chase_laws.specs.Joined.{Joined};
 ghost use Rattle.chase_laws.specs.View.{same_by};
 ghost use Rattle.chase_laws.specs.Core.{Happens, IsPresent, ListsNear, PairAt, State};
 ghost use Rattle.chase_laws.specs.Core.Event.{Enter};
-ghost use Rattle.chase_core.specs.declared.ticket.Outcome.{Outcome};
 ghost use Rattle.chase_core.specs.declared.ticket.Outcome.TheVariants.{Found, Missed};
-ghost use Rattle.chase_core.specs.declared.ticket.Settled.TheVariants.{Already};
 ghost use Rattle.chase_core.specs.Running.{IsRunning, state_in};
 ghost use Rattle.chase_core.specs.Settling.{IsFoundBy, IsRightOutcome, Notes, Settles};
 ghost use Rattle.chase_core.specs.Taking.{TakesFirst, TakesHint, pair_of};
@@ -171,20 +169,6 @@ impl<'a> Shared<'a> {
             post_last(board, &mut self.scribe, &self.chase);
         }
         settled
-    }
-
-    /// Settles a pair that was taken where its ends are joined by now, and answers whether they are. Where they are not, the chase
-    /// stays as it was. Nothing is entered, so nothing is posted.
-    pub(crate) fn settle_joined(&mut self, ticket: Ticket) -> bool
-        requires { PairAt self.old.chase.setup.task ticket.pair ticket.a ticket.b }
-        ensures settles { IsTrue result → (view : List (ℕ × ℕ)) (found : Outcome) → Settles self.old.chase ticket view found Already self.new.chase }
-        ensures joined { IsTrue result ↔ Joined self.old.chase.book.journal ticket.a ticket.b }
-        ensures unchanged { IsFalse result → self.new.chase ≡ self.old.chase }
-        ensures setup { self.new.chase.setup ≡ self.old.chase.setup }
-        ensures book { self.new.chase.book ≡ self.old.chase.book }
-        ensures scribe { self.new.scribe ≡ self.old.scribe }
-    {
-        self.chase.settle_joined(ticket)
     }
 
     /// Settles a pair that was taken, of which a search found nothing with a view that the watcher filled since there were so

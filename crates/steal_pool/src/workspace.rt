@@ -26,8 +26,6 @@ pub enum Progress {
     Missed(Ticket),
     /// The pair was searched, and the job has what was found.
     Found(Ticket),
-    /// The pair was passed over: what was found before it in the batch joins its ends when it is settled.
-    Implied(Ticket),
 }
 
 /// A place of a worker's batch: a pair from its take to its settling, and the view that it is searched by, with the watcher
