@@ -17,12 +17,15 @@ ghost use Rattle.steal_pool.specs.Batches.{IsJob, IsSearched, SettlesBy, pair_in
 
 use crate::hints::Thief;
 use crate::hunt::{keep_woken, next_hint, own_hint};
-use crate::pace::Settlement;
 use crate::shared::Shared;
 use crate::workspace::{Job, Progress, Workspace};
-use chase_core::{Settled, Ticket, Woken};
+use chase_core::{Ticket, Woken};
 use label_board::Board;
 use paired_search::View;
+
+/// A post writes a label for each name of the class that its entry made. Where that has more names than this, a worker goes on
+/// alone, which posts nothing.
+const LARGE: u32 = 1024;
 
 /// What a worker does after a turn.
 #[derive(Clone, Copy)]
@@ -39,18 +42,7 @@ pub enum Next {
     GoAlone,
 }
 
-/// Whether a pair was searched for nothing.
-fn is_wasted(settled: Settled) -> bool {
-    match settled {
-        Settled::Already => true,
-        Settled::Reopened { .. } => true,
-        Settled::Entered(_) => false,
-        Settled::Missed => false,
-    }
-}
-
-/// Settles the pair of a job of which its search found something, and keeps what that wakes. The job has no pair then. It
-/// answers whether the search was for nothing.
+/// Settles the pair of a job of which its search found something, and keeps what that wakes. The job has no pair then.
 fn settle_found(
     shared: &mut Shared<'_>,
     board: &Board,
@@ -59,7 +51,7 @@ fn settle_found(
     woken: &mut Woken,
     pending: &mut Vec<u32>,
     count: u32,
-) -> bool
+)
     requires board { board_over shared.old.chase.setup shared.old.scribe.board ≡ board.now }
     requires place { IsPlace shared.old.chase.setup.widest board.now job.old }
     requires read { job.old.watcher.read ≡ job.old.view.pairs }
@@ -76,7 +68,7 @@ fn settle_found(
     ensures pending { All (λ p. p < count) pending.new.items }
     ensures place { IsPlace shared.old.chase.setup.widest board.now job.new }
 {
-    let settled = shared.settle_found(
+    shared.settle_found(
         board,
         &mut job.watcher,
         ticket,
@@ -86,11 +78,9 @@ fn settle_found(
     );
     keep_woken(pending, woken.list(), count);
     job.progress = Progress::Free;
-    is_wasted(settled)
 }
 
-/// Settles the pair of a job of which its search found nothing, which wakes no pair. The job has no pair then. It answers
-/// whether the search was for nothing.
+/// Settles the pair of a job of which its search found nothing, which wakes no pair. The job has no pair then.
 #[inline]
 fn settle_missed(
     shared: &mut Shared<'_>,
@@ -99,7 +89,7 @@ fn settle_missed(
     ticket: Ticket,
     spare: &mut View,
     woken: &mut Woken,
-) -> bool
+)
     requires board { board_over shared.old.chase.setup shared.old.scribe.board ≡ board.now }
     requires place { IsPlace shared.old.chase.setup.widest board.now job.old }
     requires spare { shared.old.chase.setup.widest ≤ spare.old.room }
@@ -116,7 +106,7 @@ fn settle_missed(
     ensures place { IsPlace shared.old.chase.setup.widest board.now job.new }
     ensures spare { shared.old.chase.setup.widest ≤ spare.new.room }
 {
-    let settled = shared.settle_missed(
+    shared.settle_missed(
         board,
         &mut job.watcher,
         job.since,
@@ -126,11 +116,9 @@ fn settle_missed(
         woken,
     );
     job.progress = Progress::Free;
-    is_wasted(settled)
 }
 
-/// Settles a job that was searched, and keeps what that wakes. Another job stays as it is. It answers whether the search was for
-/// nothing.
+/// Settles a job that was searched, and keeps what that wakes. Another job stays as it is.
 #[inline]
 fn settle_job(
     shared: &mut Shared<'_>,
@@ -140,7 +128,7 @@ fn settle_job(
     woken: &mut Woken,
     pending: &mut Vec<u32>,
     count: u32,
-) -> bool
+)
     requires board { board_over shared.old.chase.setup shared.old.scribe.board ≡ board.now }
     requires place { IsPlace shared.old.chase.setup.widest board.now job.old }
     requires spare { shared.old.chase.setup.widest ≤ spare.old.room }
@@ -162,12 +150,12 @@ fn settle_job(
         Progress::Found(ticket) => {
             settle_found(shared, board, job, ticket, woken, pending, count)
         }
-        Progress::Taken(_) => false,
-        Progress::Free => false,
+        Progress::Taken(_) => {}
+        Progress::Free => {}
     }
 }
 
-/// Settles the first jobs, in order. It answers how many were searched for nothing.
+/// Settles the first jobs, in order.
 fn settle_all(
     shared: &mut Shared<'_>,
     board: &Board,
@@ -177,7 +165,7 @@ fn settle_all(
     woken: &mut Woken,
     pending: &mut Vec<u32>,
     count: u32,
-) -> usize
+)
     requires board { board_over shared.old.chase.setup shared.old.scribe.board ≡ board.now }
     requires jobs { All (IsJob shared.old.chase.setup.task shared.old.chase.book.journal) jobs.old }
     requires places { All (IsPlace shared.old.chase.setup.widest board.now) jobs.old }
@@ -193,12 +181,9 @@ fn settle_all(
     ensures jobs { All (IsJob shared.new.chase.setup.task shared.new.chase.book.journal) jobs.new }
     ensures places { All (IsPlace shared.old.chase.setup.widest board.now) jobs.new }
 {
-    let mut wasted: usize = 0;
     for k in 0..used.min(jobs.len()) {
-        let is_late = settle_job(shared, board, &mut jobs[k], spare, woken, pending, count);
-        wasted = wasted.saturating_add(usize::from(is_late));
+        settle_job(shared, board, &mut jobs[k], spare, woken, pending, count);
     }
-    wasted
 }
 
 /// Takes a pair for a job that has none. It answers whether it has one now.
@@ -323,7 +308,7 @@ fn take_all(
     ensures workspace { IsWorkspace (length shared.old.chase.setup.task.pairs) shared.old.chase.setup.widest board.now thieves.now workspace.new }
 {
     let count = workspace.count;
-    let woke = workspace.pace.woke;
+    let woke = !workspace.pending.is_empty();
     let mut taken = false;
     let mut dry = false;
     workspace.used = most.min(workspace.jobs.len());
@@ -343,20 +328,6 @@ fn take_all(
     search_or(workspace, taken, Next::Search)
 }
 
-/// Notes how a turn went. The next batch may be twice as large, or a quarter of it where too many searches were for nothing: a
-/// pair that waits in a batch is searched by what was known then.
-pub fn note_turn(workspace: &mut Workspace, turn: Settlement)
-    ensures jobs { workspace.new.jobs ≡ workspace.old.jobs }
-    ensures workspace { (n widest : ℕ) → (on : SeenBoard) → (thieves : List Thief) → IsWorkspace n widest on thieves workspace.old → IsWorkspace n widest on thieves workspace.new }
-{
-    workspace.pace = workspace.pace.after(turn);
-    workspace.size = if turn.is_late() {
-        (workspace.size / 4).max(1)
-    } else {
-        workspace.size.saturating_mul(2).min(workspace.jobs.len())
-    };
-}
-
 /// A batch without a pair.
 fn rest(workspace: &mut Workspace)
     ensures jobs { workspace.new.jobs ≡ workspace.old.jobs }
@@ -366,7 +337,17 @@ fn rest(workspace: &mut Workspace)
     workspace.searches = false;
 }
 
-/// Takes no more pairs, where this worker or another is to go on alone; or else the next batch: at most a share of what is
+/// Whether there are more entries than that, and the last of them made a large class.
+fn made_large(shared: &Shared<'_>, before: usize) -> bool {
+    let book = shared.chase.book();
+    let journal = book.journal();
+    match journal.last() {
+        Some(entry) => journal.len() > before && book.size(entry.a) > LARGE,
+        None => false,
+    }
+}
+
+/// Takes no more pairs, where another worker goes on alone or this one is to; or else the next batch: at most a share of what is
 /// Ready, so that others find pairs too, and at least one.
 fn take_next(
     shared: &mut Shared<'_>,
@@ -375,6 +356,7 @@ fn take_next(
     thieves: &[Thief],
     others: bool,
     lone: bool,
+    alone: bool,
 ) -> Next
     requires board { board_over shared.old.chase.setup shared.old.scribe.board ≡ board.now }
     requires jobs { All (IsJob shared.old.chase.setup.task shared.old.chase.book.journal) workspace.old.jobs.items }
@@ -390,29 +372,13 @@ fn take_next(
         rest(workspace);
         return Next::Leave;
     }
-    if workspace.pace.is_alone() {
+    if alone {
         rest(workspace);
         return Next::GoAlone;
     }
     let share = workspace.share.max(1) as usize;
     let most = (shared.chase.ready_count() / share).max(1);
-    take_all(
-        shared,
-        workspace,
-        board,
-        thieves,
-        most.min(workspace.size),
-        others,
-    )
-}
-
-/// How many names are in the class that the last entry made.
-fn last_class(shared: &Shared<'_>) -> usize {
-    let book = shared.chase.book();
-    match book.journal().last() {
-        Some(entry) => book.size(entry.a) as usize,
-        None => 0,
-    }
+    take_all(shared, workspace, board, thieves, most, others)
 }
 
 /// Settles what was searched, and takes the next batch.
@@ -435,9 +401,8 @@ pub fn settle_and_take(
     ensures jobs { All (IsJob shared.old.chase.setup.task shared.new.chase.book.journal) workspace.new.jobs.items }
     ensures workspace { IsWorkspace (length shared.old.chase.setup.task.pairs) shared.old.chase.setup.widest board.now thieves.now workspace.new }
 {
-    let found = shared.chase.book().journal().len();
-    let settled = workspace.used;
-    let wasted = settle_all(
+    let before = shared.chase.book().journal().len();
+    settle_all(
         shared,
         board,
         workspace.jobs.as_mut_slice(),
@@ -447,18 +412,8 @@ pub fn settle_and_take(
         &mut workspace.pending,
         workspace.count,
     );
-    let left = shared.chase.book().journal().len();
-    let woke = !workspace.pending.is_empty();
-    let turn = Settlement {
-        found,
-        left,
-        settled,
-        wasted,
-        woke,
-        class: last_class(shared),
-    };
-    note_turn(workspace, turn);
-    let next = take_next(shared, workspace, board, thieves, others, lone);
+    let alone = made_large(shared, before);
+    let next = take_next(shared, workspace, board, thieves, others, lone, alone);
     shared.holds();
     next
 }

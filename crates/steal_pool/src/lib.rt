@@ -14,7 +14,6 @@
 //! - `search`: searches by labels of the board
 //! - `turns`: a turn of a worker
 //! - `batch`: what a worker does with the chase in a turn
-//! - `pace`: how a worker's turns go
 //! - `signs`: what workers tell one another without the lock
 //! - `door`: what a worker passes before its turn
 //! - `alone`: what a worker does that has a chase for itself
@@ -37,7 +36,6 @@ mod gate;
 mod hint_rule;
 mod hints;
 mod hunt;
-mod pace;
 mod run;
 mod search;
 mod shared;

@@ -1,7 +1,6 @@
 //! What a worker has besides its pass of the lock.
 
 use crate::hints::{HintDeque, ThiefPass};
-use crate::pace::Pace;
 use chase_core::{Ticket, Woken};
 use label_board::Watcher;
 use paired_search::{Finding, View};
@@ -58,12 +57,8 @@ pub struct Workspace {
     pub woken: Woken,
     /// A batch takes at most one in so many of the Ready pairs.
     pub share: u32,
-    /// How many pairs the next batch takes at most.
-    pub size: usize,
     /// How many of the jobs the present batch uses.
     pub used: usize,
-    /// How its turns go.
-    pub pace: Pace,
     /// Whether the present batch has a pair.
     pub searches: bool,
     pub jobs: Vec<Job>,

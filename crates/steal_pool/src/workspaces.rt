@@ -5,7 +5,6 @@ ghost use Rattle.steal_pool.specs.Workspaces.{IsPlace, IsOwnDeque, IsWorkspace, 
 
 use crate::deques::{deal, deques, steal_passes_of, thieves_of};
 use crate::hints::{HintDeque, Thief};
-use crate::pace::Pace;
 use crate::workspace::{Job, Progress, StealPass, Workspace};
 use chase_core::{Setup, Woken};
 use chase_laws::Places;
@@ -93,7 +92,7 @@ fn free_jobs(
     Ok(jobs)
 }
 
-/// One workspace. At first a batch has one pair.
+/// One workspace.
 fn workspace_of(
     alloc: Global,
     setup: &Setup,
@@ -122,9 +121,7 @@ fn workspace_of(
         pending,
         woken,
         share,
-        size: 1,
         used: 0,
-        pace: Pace::new(),
         searches: false,
         jobs,
         spare,
