@@ -1,6 +1,6 @@
 //! What a worker does with the chase in a turn: it settles the jobs that it has searched, and takes pairs for new ones.
 
-ghost use Rattle.std.specs.Prelude.{◌≡◌, ◌++◌, ◌<◌, ◌≤◌, ◌^◌, ◌↔◌, [], ℕ, List, All, IfSome, IsTrue, IsSome, None, Some, MatchOption, if◌then◌else◌, length, slice_index_or};
+ghost use Rattle.std.specs.Prelude.{◌≡◌, ◌++◌, ◌<◌, ◌^◌, ◌↔◌, [], ℕ, List, All, IfSome, IsTrue, IsSome, None, Some, MatchOption, if◌then◌else◌, length, slice_index_or};
 ghost use Rattle.chase_laws.specs.declared.entry.Entry.{Entry};
 ghost use Rattle.chase_laws.specs.Core.{ListsNear, PairAt};
 ghost use Rattle.chase_core.specs.declared.ticket.Outcome.TheVariants.{Found, Missed};
@@ -21,7 +21,6 @@ use crate::shared::Shared;
 use crate::workspace::{Job, Progress, Workspace};
 use chase_core::{Ticket, Woken};
 use label_board::Board;
-use paired_search::View;
 
 /// A post writes a label for each name of the class that its entry made. Where that has more names than this, a worker goes on
 /// alone, which posts nothing.
@@ -87,12 +86,10 @@ fn settle_missed(
     board: &Board,
     job: &mut Job,
     ticket: Ticket,
-    spare: &mut View,
     woken: &mut Woken,
 )
     requires board { board_over shared.old.chase.setup shared.old.scribe.board ≡ board.now }
     requires place { IsPlace shared.old.chase.setup.widest board.now job.old }
-    requires spare { shared.old.chase.setup.widest ≤ spare.old.room }
     requires read { job.old.watcher.read ≡ job.old.view.pairs }
     requires since { IsSince shared.old.chase.book.journal job.old.watcher.since job.old.since }
     requires ends { PairAt shared.old.chase.setup.task ticket.pair ticket.a ticket.b }
@@ -104,17 +101,8 @@ fn settle_missed(
     ensures board { shared.new.scribe.board ≡ shared.old.scribe.board }
     ensures book { shared.new.chase.book ≡ shared.old.chase.book }
     ensures place { IsPlace shared.old.chase.setup.widest board.now job.new }
-    ensures spare { shared.old.chase.setup.widest ≤ spare.new.room }
 {
-    shared.settle_missed(
-        board,
-        &mut job.watcher,
-        job.since,
-        ticket,
-        &mut job.view,
-        spare,
-        woken,
-    );
+    shared.settle_missed(board, &mut job.watcher, job.since, ticket, &job.view, woken);
     job.progress = Progress::Free;
 }
 
@@ -124,14 +112,12 @@ fn settle_job(
     shared: &mut Shared<'_>,
     board: &Board,
     job: &mut Job,
-    spare: &mut View,
     woken: &mut Woken,
     pending: &mut Vec<u32>,
     count: u32,
 )
     requires board { board_over shared.old.chase.setup shared.old.scribe.board ≡ board.now }
     requires place { IsPlace shared.old.chase.setup.widest board.now job.old }
-    requires spare { shared.old.chase.setup.widest ≤ spare.old.room }
     requires job { IsJob shared.old.chase.setup.task shared.old.chase.book.journal job.old }
     requires pending { All (λ p. p < count) pending.old.items }
     requires count { length shared.old.chase.setup.task.pairs ≡ count }
@@ -142,11 +128,10 @@ fn settle_job(
     ensures grows { (more : List Entry) × (shared.new.chase.book.journal ≡ shared.old.chase.book.journal ++ more) }
     ensures pending { All (λ p. p < count) pending.new.items }
     ensures place { IsPlace shared.old.chase.setup.widest board.now job.new }
-    ensures spare { shared.old.chase.setup.widest ≤ spare.new.room }
     ensures job { IsJob shared.new.chase.setup.task shared.new.chase.book.journal job.new }
 {
     match job.progress {
-        Progress::Missed(ticket) => settle_missed(shared, board, job, ticket, spare, woken),
+        Progress::Missed(ticket) => settle_missed(shared, board, job, ticket, woken),
         Progress::Found(ticket) => {
             settle_found(shared, board, job, ticket, woken, pending, count)
         }
@@ -161,7 +146,6 @@ fn settle_all(
     board: &Board,
     jobs: &mut [Job],
     used: usize,
-    spare: &mut View,
     woken: &mut Woken,
     pending: &mut Vec<u32>,
     count: u32,
@@ -169,7 +153,6 @@ fn settle_all(
     requires board { board_over shared.old.chase.setup shared.old.scribe.board ≡ board.now }
     requires jobs { All (IsJob shared.old.chase.setup.task shared.old.chase.book.journal) jobs.old }
     requires places { All (IsPlace shared.old.chase.setup.widest board.now) jobs.old }
-    requires spare { shared.old.chase.setup.widest ≤ spare.old.room }
     requires pending { All (λ p. p < count) pending.old.items }
     requires count { length shared.old.chase.setup.task.pairs ≡ count }
     ensures settled { (k : ℕ) (d : Job) → k < used → k < length jobs.old → ¬ (IsSearched (slice_index_or jobs.new k d).progress) }
@@ -177,12 +160,11 @@ fn settle_all(
     ensures board { shared.new.scribe.board ≡ shared.old.scribe.board }
     ensures grows { (more : List Entry) × (shared.new.chase.book.journal ≡ shared.old.chase.book.journal ++ more) }
     ensures pending { All (λ p. p < count) pending.new.items }
-    ensures spare { shared.old.chase.setup.widest ≤ spare.new.room }
     ensures jobs { All (IsJob shared.new.chase.setup.task shared.new.chase.book.journal) jobs.new }
     ensures places { All (IsPlace shared.old.chase.setup.widest board.now) jobs.new }
 {
     for k in 0..used.min(jobs.len()) {
-        settle_job(shared, board, &mut jobs[k], spare, woken, pending, count);
+        settle_job(shared, board, &mut jobs[k], woken, pending, count);
     }
 }
 
@@ -258,7 +240,6 @@ fn hint_unless(
     ensures passes { ReachEach n thieves.now workspace.new.steal_passes.items }
     ensures pending { All (λ p. p < n) workspace.new.pending.items }
     ensures jobs { workspace.new.jobs ≡ workspace.old.jobs }
-    ensures spare { workspace.new.spare ≡ workspace.old.spare }
     ensures hint { IfSome result (λ p. p < n) }
 {
     if dry {
@@ -407,7 +388,6 @@ pub fn settle_and_take(
         board,
         workspace.jobs.as_mut_slice(),
         workspace.used,
-        &mut workspace.spare,
         &mut workspace.woken,
         &mut workspace.pending,
         workspace.count,

@@ -62,6 +62,4 @@ pub struct Workspace {
     /// Whether the present batch has a pair.
     pub searches: bool,
     pub jobs: Vec<Job>,
-    /// A view for a second look at the board.
-    pub spare: View,
 }

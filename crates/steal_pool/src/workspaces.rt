@@ -107,10 +107,8 @@ fn workspace_of(
     ensures passes { IfOk result (λ w. w.steal_passes ≡ steal_passes) }
     ensures pending { IfOk result (λ w. w.pending.items ≡ []) }
     ensures jobs { IfOk result (λ w. w.jobs ≡ jobs) }
-    ensures spare { IfOk result (λ w. setup.now.widest ≤ w.spare.room) }
 {
     let count = setup.pairs().len() as u32;
-    let spare = View::new(alloc, setup.widest())?;
     let woken = Woken::new(alloc, WOKEN)?;
     let pending = Vec::with_capacity(alloc, WOKEN as usize)?;
     Ok(Workspace {
@@ -124,7 +122,6 @@ fn workspace_of(
         used: 0,
         searches: false,
         jobs,
-        spare,
     })
 }
 

@@ -15,6 +15,5 @@ loop-k-preserved c =
       jobs = settled_one c.loop-k.shared.chase.setup c.settle_job.new.shared.chase.setup c.loop-k.shared.chase.book.journal _ e.grows.0 c.loop-k.jobs c.loop-k.k c.settle_job.new.job
           e.setup e.grows.1 e.job v.jobs;
       board = e.board ∙ v.board;
-      spare = search rules;
       places = search rules;
     }

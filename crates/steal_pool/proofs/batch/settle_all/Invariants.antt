@@ -1,4 +1,4 @@
-use Rattle.std.proofs.Common.{◌≡◌, ◌++◌, ◌<◌, ◌≤◌, ℕ, All, List, length, get_or}
+use Rattle.std.proofs.Common.{◌≡◌, ◌++◌, ◌<◌, ℕ, All, List, length, get_or}
 use Rattle.chase_laws.specs.declared.entry.Entry.{Entry}
 use Rattle.steal_pool.specs.declared.workspace.Job.{Job}
 use Rattle.steal_pool.specs.Workspaces.{IsPlace}
@@ -14,6 +14,5 @@ invariant-loop-k l = record {
   pending : All (λ p. p < l.count) l.pending.items;
   jobs : All (IsJob l.shared.chase.setup.task l.shared.chase.book.journal) l.jobs;
   board : l.shared.scribe.board ≡ l.fn.shared.scribe.board;
-  spare : l.fn.shared.chase.setup.widest ≤ l.spare.room;
   places : All (IsPlace l.fn.shared.chase.setup.widest l.board) l.jobs;
 }

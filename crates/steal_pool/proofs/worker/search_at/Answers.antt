@@ -48,7 +48,6 @@ returns-clause-at_work c =
           places = All-set (IsPlace b.member.base.0.widest c.args.board.now) jobs c.args.k c.search_job.new.job
               (subst (λ (Z : Base). IsPlace Z.0.widest c.args.board.now c.search_job.new.job) same c.search_job.ensures.place)
               w.places;
-          spare = w.spare;
         };
       };
       jobs = λ Z e. subst (λ (Y : Base). All (IsJob Y.0.task log) (set jobs c.args.k c.search_job.new.job)) (same_base B Z (sym c.requires.setup ∙ e))
