@@ -169,37 +169,3 @@ fn crews_of_all_sizes_come_to_the_same(rt: HostRuntime) {
         }
     }
 }
-
-/// How many pairs have passed so often.
-fn passed(gate: &Counts, times: u64) -> usize {
-    gate.passed
-        .iter()
-        .filter(|count| count.load(Ordering::SeqCst) == times)
-        .count()
-}
-
-#[test]
-fn what_nothing_can_match_is_searched_once(rt: HostRuntime) {
-    let prepared = prepared(&rt, rt.alloc(), Kind::Crowd, 100);
-    let alone = drained(&rt, rt.alloc(), &prepared.setup);
-    for workers in [1, 4] {
-        // 4,950 pairs of the crowd, and the first two of those that it leads to.
-        let gate = Counts::new(rt.alloc(), 4951).expect(&rt, ENOUGH);
-        let whole = chase_setup(&rt, rt.alloc(), &prepared.setup, workers, &gate);
-        let whole = whole.expect(&rt, ENOUGH);
-        assert!(&rt; are_alike(&whole.labels, &alone.labels));
-        assert_eq!(&rt; whole.journal.len(), 2);
-        assert_eq!(&rt; passed(&gate, 1), 4949);
-    }
-}
-
-#[test]
-fn what_is_implied_is_mostly_not_searched(rt: HostRuntime) {
-    let prepared = prepared(&rt, rt.alloc(), Kind::Threes, 1000);
-    for workers in [1, 4] {
-        let gate = Counts::new(rt.alloc(), 6000).expect(&rt, ENOUGH);
-        let whole = run(&rt, rt.alloc(), &prepared.setup, workers, &gate);
-        assert_eq!(&rt; whole.journal.len(), 5000);
-        assert!(&rt; passed(&gate, 0) > 500);
-    }
-}

@@ -1,5 +1,4 @@
-//! Graphs of names of type 1: so many pairs, of which both names have one literal under 2 that no other has, or a crowd of names
-//! that all have one, or threes of names that are the same.
+//! Graphs of so many pairs of names of type 1. Both names of a pair have one literal under 2, which no other has.
 
 use crate::ENOUGH;
 use chase_laws::Slot;
@@ -16,12 +15,6 @@ pub enum Kind {
     Alone,
     /// Only the last has, and each other leads to the next under 3 and needs that to be the same.
     Chain,
-    /// A crowd of so many names, of which each leads to one of its own under 3. The first two of these are found to be the same
-    /// by a literal under 4, and so the first two of the crowd are.
-    Crowd,
-    /// So many threes of names with one literal under 4 that no other has, and behind each three pairs with one of their own. So
-    /// each pair is found, and two of the three of three names imply the third one.
-    Threes,
 }
 
 // One literal under 4, or one under 2 and what is the same under 3.
@@ -69,13 +62,17 @@ struct Table {
     names: u32,
 }
 
-/// So many pairs, each alone or in a chain.
-fn pairs_of(alloc: Global, is_chain: bool, count: u32) -> Result<Table, AllocError> {
+/// So many pairs of this kind.
+fn table_of(alloc: Global, kind: Kind, count: u32) -> Result<Table, AllocError> {
     let mut rows = Vec::new(alloc);
     let mut literals = Vec::new(alloc);
     let mut names = 5u32;
     for i in 0..count {
-        push_pair(&mut rows, names, !is_chain || i == count - 1)?;
+        let ends = match kind {
+            Kind::Alone => true,
+            Kind::Chain => i == count - 1,
+        };
+        push_pair(&mut rows, names, ends)?;
         literals.push(names.wrapping_add(2))?;
         names = names.wrapping_add(3);
     }
@@ -84,64 +81,6 @@ fn pairs_of(alloc: Global, is_chain: bool, count: u32) -> Result<Table, AllocErr
         literals,
         names,
     })
-}
-
-/// A crowd of so many names. The literals are 5 and 6.
-fn crowd_of(alloc: Global, count: u32) -> Result<Table, AllocError> {
-    let mut rows = Vec::new(alloc);
-    let mut literals = Vec::new(alloc);
-    literals.push(5)?;
-    literals.push(6)?;
-    let mut names = 7u32;
-    for i in 0..count {
-        let next = names.wrapping_add(1);
-        rows.push([names, 0, 1])?;
-        rows.push([names, 2, 5])?;
-        rows.push([names, 3, next])?;
-        rows.push([next, 0, 1])?;
-        if i < 2 {
-            rows.push([next, 4, 6])?;
-        }
-        names = names.wrapping_add(2);
-    }
-    Ok(Table {
-        rows,
-        literals,
-        names,
-    })
-}
-
-/// So many threes of names, each with its literal after it, and three pairs behind each.
-fn threes_of(alloc: Global, count: u32) -> Result<Table, AllocError> {
-    let mut rows = Vec::new(alloc);
-    let mut literals = Vec::new(alloc);
-    let mut names = 5u32;
-    for i in 0..count {
-        for members in [3u32, 2, 2, 2] {
-            let literal = names.wrapping_add(members);
-            for name in names..literal {
-                rows.push([name, 0, 1])?;
-                rows.push([name, 4, literal])?;
-            }
-            literals.push(literal)?;
-            names = literal.wrapping_add(1);
-        }
-    }
-    Ok(Table {
-        rows,
-        literals,
-        names,
-    })
-}
-
-/// The rows of this kind.
-fn table_of(alloc: Global, kind: Kind, count: u32) -> Result<Table, AllocError> {
-    match kind {
-        Kind::Alone => pairs_of(alloc, false, count),
-        Kind::Chain => pairs_of(alloc, true, count),
-        Kind::Crowd => crowd_of(alloc, count),
-        Kind::Threes => threes_of(alloc, count),
-    }
 }
 
 // The keys, behind a function, so that proofs do not see them.

@@ -1,7 +1,7 @@
 //! Tests of crews: what passes their gates, and what their chases come to. They stand in a crate of their own, since a
 //! crate with tests is proved twice.
 //!
-//! - `graphs`: graphs in which each pair stands alone, or needs the one before it, or hardly any pair can match, or threes are the same
+//! - `graphs`: graphs in which each pair stands alone, or needs the one before it
 //! - `crews`: the tests
 #![tactic(auto)]
 

@@ -4,18 +4,12 @@
 //! of it. What the classes are is said in `specs/`, by the chase's definitions alone.
 //!
 //! - `preparing`: what a chase needs before it runs
-//! - `possible`: which names may be the same at all
-//! - `sampling`: which pairs are looked at before workers share a chase
-//! - `unmatched`: the pairs that nothing can match
 //! - `together`: a chase by a crew
 //! - `whole`: the labels of a whole chase
 #![tactic(auto)]
 
-mod possible;
 mod preparing;
-mod sampling;
 mod together;
-mod unmatched;
 mod whole;
 
 pub use preparing::{Prepared, prepare, prepare_graph};

@@ -1,11 +1,9 @@
 //! Runs a chase to its end with a crew.
 
-ghost use Rattle.std.specs.Prelude.{◌≡◌, ◌<◌, ◌≤◌, ◌++◌, List, All, Contains, IfOk, IfSome};
+ghost use Rattle.std.specs.Prelude.{◌≡◌, ◌<◌, ◌≤◌, ◌++◌, List, All, Contains, IfOk};
 ghost use Rattle.chase_laws.specs.declared.entry.Entry.{Entry};
 ghost use Rattle.match_run.specs.Classes.{AreClasses, IsFinishedJournal, JoinsStepsOf, JoinsAsAll};
-ghost use Rattle.match_run.specs.Unmatched.{AreUnmatched};
 
-use crate::unmatched::{UnmatchedPairs, settle_taken, take_unmatched};
 use chase_core::{Chase, Matched, Setup, Woken};
 use chase_laws::core_law::law_core;
 use chase_laws::laws::{law_confluence, law_joined, law_step_grows};
@@ -31,27 +29,8 @@ pub fn chase<G: Gate, R: Threads + Wait + Sync>(
     ensures woken_room { woken.new.room ≡ woken.old.room }
     ensures begins { (more : List Entry) × (result.journal.items ≡ crew.entry.journal ++ more) }
 {
-    chase_and_settle(rt, crew, &None, woken, gate)
-}
-
-/// Does what `chase` does, and settles the unmatched pairs that were taken behind the crew.
-fn chase_and_settle<G: Gate, R: Threads + Wait + Sync>(
-    rt: &R,
-    crew: Crew<'_>,
-    taken: &Option<UnmatchedPairs>,
-    woken: &mut Woken,
-    gate: &G,
-) -> Matched
-    requires { IfSome taken.now (AreUnmatched crew.setup.task) }
-    ensures classes { AreClasses crew.entry.setup.task.graph crew.entry.setup.task.patterns result.labels.items }
-    ensures journal { IsFinishedJournal crew.entry.setup.task.graph crew.entry.setup.task.patterns result.journal.items }
-    ensures ends { All (λ e. Contains crew.entry.setup.task.pairs (e.a, e.b)) result.journal.items }
-    ensures woken_room { woken.new.room ≡ woken.old.room }
-    ensures begins { (more : List Entry) × (result.journal.items ≡ crew.entry.journal ++ more) }
-{
     law_core();
     let mut running = run_crew(rt, crew, gate);
-    settle_taken(&mut running, taken);
     running.recall();
     running.drain(woken);
     running.finish()
@@ -60,9 +39,8 @@ fn chase_and_settle<G: Gate, R: Threads + Wait + Sync>(
 /// Runs a chase to its end, with a crew of as many workers as there is memory for: at most so many, 1 to 64, and no more
 /// than there are pairs, but at least one. The labels are equal exactly where two names are the same, and the journal is a
 /// lean derivation that no step goes beyond, over the pairs of the setup; it begins with that of the chase. Each worker
-/// passes the gate before each search, and so does each of as many threads that look for those that nothing can match, before
-/// the crew begins, where more than a quarter of 4,096 pairs or more stand behind 16 others with the same first name. Only want
-/// of memory stops it, before any other search. Whatever could be identified next when it began is joined when it ends.
+/// passes the gate before each search. Only want of memory stops it, before any search. Whatever could be identified next when
+/// it began is joined when it ends.
 pub fn chase_on<R: Threads + Wait + Sync, G: Gate>(
     rt: &R,
     alloc: Global,
@@ -81,12 +59,9 @@ pub fn chase_on<R: Threads + Wait + Sync, G: Gate>(
     law_step_grows();
     law_joined();
     let pairs = made.setup().pairs().len() as u32;
-    let workers = workers.min(pairs.max(1));
     let mut woken = Woken::new(alloc, 0)?;
-    let mut made = made;
-    let taken = take_unmatched(rt, alloc, &mut made, workers, gate);
-    let crew = muster(alloc, made, workers)?;
-    Ok(chase_and_settle(rt, crew, &taken, &mut woken, gate))
+    let crew = muster(alloc, made, workers.min(pairs.max(1)))?;
+    Ok(chase(rt, crew, &mut woken, gate))
 }
 
 /// Runs a new chase over a setup to its end, as `chase_on` does one that has begun. Whoever chases the same graph by the same

@@ -28,7 +28,6 @@ carried_later T seen more j progress.Free h = tt
 carried_later T seen more j (progress.Taken t) h = (h.0, since_later seen more j.watcher.since j.since h.1)
 carried_later T seen more j (progress.Missed t) h = (h.0, since_later seen more j.watcher.since j.since h.1, h.2, h.3, h.4)
 carried_later T seen more j (progress.Found t) h = (h.0, since_later seen more j.watcher.since j.since h.1, h.2, h.3, h.4)
-carried_later T seen more j (progress.Implied t) h = (h.0, since_later seen more j.watcher.since j.since h.1)
 
 jobs_later : (T : Task) (seen more : List Entry) (jobs : List Job) → All (IsJob T seen) jobs → All (IsJob T (seen ++ more)) jobs
 jobs_later T seen more jobs h = λ k d l. carried_later T seen more (get_or jobs k d) (get_or jobs k d).progress (h k d l)

@@ -3,5 +3,4 @@ mod HintMoves
 mod Jobs
 mod Passes
 mod Reaching
-mod TellingMore
 mod Wakings

@@ -1,5 +1,5 @@
 -- Passes for stealing, in order.
-use Rattle.std.proofs.Common.{Global, List, [], ◌∷◌, ◌++◌, ℕ, zero, suc, Some, length, get_or, slice_get, ◌≡◌, ◌<◌, ◌≤◌, sym, subst, ap, ◌∙◌, Vec}
+use Rattle.std.proofs.Common.{Global, List, [], ◌∷◌, ◌++◌, ℕ, zero, suc, Some, length, get_or, slice_get, ◌≡◌, ◌<◌, sym, subst, ap, ◌∙◌, Vec}
 use Rattle.std.proofs.lemmas.List.{length-map}
 use Rattle.std.specs.List.{All}
 use Rattle.std.specs.Option.{option_map}
@@ -47,13 +47,12 @@ reach_more n k ids deques passes p w same within count pass knows reach = λ j i
 
 -- what a workspace is made of
 pub workspace_made : (n m widest : ℕ) (on : SeenBoard) (thieves : List Thief) (workspace : Workspace) (own : HintDeque) (passes : Vec StealPass Global)
-    → n ≡ m → workspace.count ≡ m → workspace.own ≡ own → workspace.steal_passes ≡ passes → workspace.pending.items ≡ [] → All (IsPlace widest on) workspace.jobs.items → widest ≤ workspace.spare.room
+    → n ≡ m → workspace.count ≡ m → workspace.own ≡ own → workspace.steal_passes ≡ passes → workspace.pending.items ≡ [] → All (IsPlace widest on) workspace.jobs.items
     → IsOwnDeque n own → ReachAll n (thief_ids thieves) passes.items → IsWorkspace m widest on thieves workspace
-workspace_made n m widest on thieves workspace own passes same count is_own are_passes none places spare deque reach = record {
+workspace_made n m widest on thieves workspace own passes same count is_own are_passes none places deque reach = record {
   count = count;
   own = subst (λ (k : ℕ). IsOwnDeque k workspace.own) same (subst (IsOwnDeque n) (sym is_own) deque);
   passes = subst (λ (k : ℕ). ReachEach k thieves workspace.steal_passes.items) same (subst (λ (ps : Vec StealPass Global). ReachEach n thieves ps.items) (sym are_passes) (reach_each n thieves passes.items reach));
   pending = subst (All (λ p. p < m)) (sym none) (λ k d l. absurd (omega Rattle.std.proofs.Common.arith));
   places = places;
-  spare = spare;
 }

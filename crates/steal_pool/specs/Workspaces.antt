@@ -57,4 +57,3 @@ pub record IsWorkspace (n widest : ℕ) (on : SeenBoard) (thieves : List Thief) 
   pub passes : ReachEach n thieves w.steal_passes.items
   pub pending : All (λ p. p < n) w.pending.items
   pub places : All (IsPlace widest on) w.jobs.items
-  pub spare : widest ≤ w.spare.room

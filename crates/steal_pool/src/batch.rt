@@ -1,6 +1,6 @@
 //! What a worker does with the chase in a turn: it settles the jobs that it has searched, and takes pairs for new ones.
 
-ghost use Rattle.std.specs.Prelude.{◌≡◌, ◌++◌, ◌<◌, ◌≤◌, ◌^◌, ◌↔◌, [], ℕ, List, All, IfSome, IsTrue, IsSome, None, Some, MatchOption, if◌then◌else◌, length, slice_index_or};
+ghost use Rattle.std.specs.Prelude.{◌≡◌, ◌++◌, ◌<◌, ◌^◌, ◌↔◌, [], ℕ, List, All, IfSome, IsTrue, IsSome, None, Some, MatchOption, if◌then◌else◌, length, slice_index_or};
 ghost use Rattle.chase_laws.specs.declared.entry.Entry.{Entry};
 ghost use Rattle.chase_laws.specs.Core.{ListsNear, PairAt};
 ghost use Rattle.chase_core.specs.declared.ticket.Outcome.TheVariants.{Found, Missed};
@@ -13,17 +13,18 @@ ghost use Rattle.steal_pool.specs.declared.workspace.Progress.TheVariants.{Free}
 ghost use Rattle.steal_pool.specs.Workspaces.{IsPlace, IsOwnDeque, IsWorkspace, ReachEach, Thief};
 ghost use Rattle.label_board.specs.Seen.{SeenBoard};
 ghost use Rattle.steal_pool.specs.Bases.{IsSince, board_over};
-ghost use Rattle.steal_pool.specs.Batches.{IsJob, IsThrough, SettlesBy, pair_in};
+ghost use Rattle.steal_pool.specs.Batches.{IsJob, IsSearched, SettlesBy, pair_in};
 
 use crate::hints::Thief;
 use crate::hunt::{keep_woken, next_hint, own_hint};
-use crate::implied::settle_implied;
-use crate::pace::Settlement;
 use crate::shared::Shared;
 use crate::workspace::{Job, Progress, Workspace};
-use chase_core::{Settled, Ticket, Woken};
+use chase_core::{Ticket, Woken};
 use label_board::Board;
-use paired_search::View;
+
+/// A post writes a label for each name of the class that its entry made. Where that has more names than this, a worker goes on
+/// alone, which posts nothing.
+const LARGE: u32 = 1024;
 
 /// What a worker does after a turn.
 #[derive(Clone, Copy)]
@@ -40,18 +41,7 @@ pub enum Next {
     GoAlone,
 }
 
-/// Whether a pair was searched for nothing.
-fn is_wasted(settled: Settled) -> bool {
-    match settled {
-        Settled::Already => true,
-        Settled::Reopened { .. } => true,
-        Settled::Entered(_) => false,
-        Settled::Missed => false,
-    }
-}
-
-/// Settles the pair of a job of which its search found something, and keeps what that wakes. The job has no pair then. It
-/// answers whether the search was for nothing.
+/// Settles the pair of a job of which its search found something, and keeps what that wakes. The job has no pair then.
 fn settle_found(
     shared: &mut Shared<'_>,
     board: &Board,
@@ -60,7 +50,7 @@ fn settle_found(
     woken: &mut Woken,
     pending: &mut Vec<u32>,
     count: u32,
-) -> bool
+)
     requires board { board_over shared.old.chase.setup shared.old.scribe.board ≡ board.now }
     requires place { IsPlace shared.old.chase.setup.widest board.now job.old }
     requires read { job.old.watcher.read ≡ job.old.view.pairs }
@@ -77,7 +67,7 @@ fn settle_found(
     ensures pending { All (λ p. p < count) pending.new.items }
     ensures place { IsPlace shared.old.chase.setup.widest board.now job.new }
 {
-    let settled = shared.settle_found(
+    shared.settle_found(
         board,
         &mut job.watcher,
         ticket,
@@ -87,23 +77,19 @@ fn settle_found(
     );
     keep_woken(pending, woken.list(), count);
     job.progress = Progress::Free;
-    is_wasted(settled)
 }
 
-/// Settles the pair of a job of which its search found nothing, which wakes no pair. The job has no pair then. It answers
-/// whether the search was for nothing.
+/// Settles the pair of a job of which its search found nothing, which wakes no pair. The job has no pair then.
 #[inline]
 fn settle_missed(
     shared: &mut Shared<'_>,
     board: &Board,
     job: &mut Job,
     ticket: Ticket,
-    spare: &mut View,
     woken: &mut Woken,
-) -> bool
+)
     requires board { board_over shared.old.chase.setup shared.old.scribe.board ≡ board.now }
     requires place { IsPlace shared.old.chase.setup.widest board.now job.old }
-    requires spare { shared.old.chase.setup.widest ≤ spare.old.room }
     requires read { job.old.watcher.read ≡ job.old.view.pairs }
     requires since { IsSince shared.old.chase.book.journal job.old.watcher.since job.old.since }
     requires ends { PairAt shared.old.chase.setup.task ticket.pair ticket.a ticket.b }
@@ -115,95 +101,71 @@ fn settle_missed(
     ensures board { shared.new.scribe.board ≡ shared.old.scribe.board }
     ensures book { shared.new.chase.book ≡ shared.old.chase.book }
     ensures place { IsPlace shared.old.chase.setup.widest board.now job.new }
-    ensures spare { shared.old.chase.setup.widest ≤ spare.new.room }
 {
-    let settled = shared.settle_missed(
-        board,
-        &mut job.watcher,
-        job.since,
-        ticket,
-        &mut job.view,
-        spare,
-        woken,
-    );
+    shared.settle_missed(board, &mut job.watcher, job.since, ticket, &job.view, woken);
     job.progress = Progress::Free;
-    is_wasted(settled)
 }
 
-/// Settles a job that was searched or passed over, and keeps what that wakes. Another job stays as it is. It answers whether a
-/// search was for nothing.
+/// Settles a job that was searched, and keeps what that wakes. Another job stays as it is.
 #[inline]
 fn settle_job(
     shared: &mut Shared<'_>,
     board: &Board,
     job: &mut Job,
-    spare: &mut View,
     woken: &mut Woken,
     pending: &mut Vec<u32>,
     count: u32,
-) -> bool
+)
     requires board { board_over shared.old.chase.setup shared.old.scribe.board ≡ board.now }
     requires place { IsPlace shared.old.chase.setup.widest board.now job.old }
-    requires spare { shared.old.chase.setup.widest ≤ spare.old.room }
     requires job { IsJob shared.old.chase.setup.task shared.old.chase.book.journal job.old }
     requires pending { All (λ p. p < count) pending.old.items }
     requires count { length shared.old.chase.setup.task.pairs ≡ count }
     ensures settles { SettlesBy shared.old.chase job.new.view.pairs job.old.finding job.old.progress shared.new.chase job.new.progress }
-    ensures settled { ¬ (IsThrough job.new.progress) }
+    ensures settled { ¬ (IsSearched job.new.progress) }
     ensures setup { shared.new.chase.setup ≡ shared.old.chase.setup }
     ensures board { shared.new.scribe.board ≡ shared.old.scribe.board }
     ensures grows { (more : List Entry) × (shared.new.chase.book.journal ≡ shared.old.chase.book.journal ++ more) }
     ensures pending { All (λ p. p < count) pending.new.items }
     ensures place { IsPlace shared.old.chase.setup.widest board.now job.new }
-    ensures spare { shared.old.chase.setup.widest ≤ spare.new.room }
     ensures job { IsJob shared.new.chase.setup.task shared.new.chase.book.journal job.new }
 {
     match job.progress {
-        Progress::Missed(ticket) => settle_missed(shared, board, job, ticket, spare, woken),
+        Progress::Missed(ticket) => settle_missed(shared, board, job, ticket, woken),
         Progress::Found(ticket) => {
             settle_found(shared, board, job, ticket, woken, pending, count)
         }
-        Progress::Implied(ticket) => {
-            settle_implied(shared, job, ticket);
-            false
-        }
-        Progress::Taken(_) => false,
-        Progress::Free => false,
+        Progress::Taken(_) => {}
+        Progress::Free => {}
     }
 }
 
-/// Settles the first jobs, in order. It answers how many were searched for nothing.
+/// Settles the first jobs, in order.
 fn settle_all(
     shared: &mut Shared<'_>,
     board: &Board,
     jobs: &mut [Job],
     used: usize,
-    spare: &mut View,
     woken: &mut Woken,
     pending: &mut Vec<u32>,
     count: u32,
-) -> usize
+)
     requires board { board_over shared.old.chase.setup shared.old.scribe.board ≡ board.now }
     requires jobs { All (IsJob shared.old.chase.setup.task shared.old.chase.book.journal) jobs.old }
     requires places { All (IsPlace shared.old.chase.setup.widest board.now) jobs.old }
-    requires spare { shared.old.chase.setup.widest ≤ spare.old.room }
     requires pending { All (λ p. p < count) pending.old.items }
     requires count { length shared.old.chase.setup.task.pairs ≡ count }
-    ensures settled { (k : ℕ) (d : Job) → k < used → k < length jobs.old → ¬ (IsThrough (slice_index_or jobs.new k d).progress) }
+    ensures settled { (k : ℕ) (d : Job) → k < used → k < length jobs.old → ¬ (IsSearched (slice_index_or jobs.new k d).progress) }
     ensures setup { shared.new.chase.setup ≡ shared.old.chase.setup }
     ensures board { shared.new.scribe.board ≡ shared.old.scribe.board }
     ensures grows { (more : List Entry) × (shared.new.chase.book.journal ≡ shared.old.chase.book.journal ++ more) }
     ensures pending { All (λ p. p < count) pending.new.items }
-    ensures spare { shared.old.chase.setup.widest ≤ spare.new.room }
     ensures jobs { All (IsJob shared.new.chase.setup.task shared.new.chase.book.journal) jobs.new }
     ensures places { All (IsPlace shared.old.chase.setup.widest board.now) jobs.new }
 {
-    let mut wasted: usize = 0;
     for k in 0..used.min(jobs.len()) {
-        let is_late = settle_job(shared, board, &mut jobs[k], spare, woken, pending, count);
-        wasted = wasted.saturating_add(usize::from(is_late));
+        settle_job(shared, board, &mut jobs[k], woken, pending, count);
     }
-    wasted
 }
 
 /// Takes a pair for a job that has none. It answers whether it has one now.
@@ -257,7 +219,6 @@ fn fill_job(shared: &mut Shared<'_>, board: &Board, job: &mut Job, hint: Option<
         Progress::Taken(_) => true,
         Progress::Missed(_) => true,
         Progress::Found(_) => true,
-        Progress::Implied(_) => true,
     }
 }
 
@@ -279,7 +240,6 @@ fn hint_unless(
     ensures passes { ReachEach n thieves.now workspace.new.steal_passes.items }
     ensures pending { All (λ p. p < n) workspace.new.pending.items }
     ensures jobs { workspace.new.jobs ≡ workspace.old.jobs }
-    ensures spare { workspace.new.spare ≡ workspace.old.spare }
     ensures hint { IfSome result (λ p. p < n) }
 {
     if dry {
@@ -329,7 +289,7 @@ fn take_all(
     ensures workspace { IsWorkspace (length shared.old.chase.setup.task.pairs) shared.old.chase.setup.widest board.now thieves.now workspace.new }
 {
     let count = workspace.count;
-    let woke = workspace.pace.woke;
+    let woke = !workspace.pending.is_empty();
     let mut taken = false;
     let mut dry = false;
     workspace.used = most.min(workspace.jobs.len());
@@ -349,20 +309,6 @@ fn take_all(
     search_or(workspace, taken, Next::Search)
 }
 
-/// Notes how a turn went. The next batch may be twice as large, or a quarter of it where too many searches were for nothing: a
-/// pair that waits in a batch is searched by what was known then.
-pub fn note_turn(workspace: &mut Workspace, turn: Settlement)
-    ensures jobs { workspace.new.jobs ≡ workspace.old.jobs }
-    ensures workspace { (n widest : ℕ) → (on : SeenBoard) → (thieves : List Thief) → IsWorkspace n widest on thieves workspace.old → IsWorkspace n widest on thieves workspace.new }
-{
-    workspace.pace = workspace.pace.after(turn);
-    workspace.size = if turn.is_late() {
-        (workspace.size / 4).max(1)
-    } else {
-        workspace.size.saturating_mul(2).min(workspace.jobs.len())
-    };
-}
-
 /// A batch without a pair.
 fn rest(workspace: &mut Workspace)
     ensures jobs { workspace.new.jobs ≡ workspace.old.jobs }
@@ -372,7 +318,17 @@ fn rest(workspace: &mut Workspace)
     workspace.searches = false;
 }
 
-/// Takes no more pairs, where this worker or another is to go on alone; or else the next batch: at most a share of what is
+/// Whether there are more entries than that, and the last of them made a large class.
+fn made_large(shared: &Shared<'_>, before: usize) -> bool {
+    let book = shared.chase.book();
+    let journal = book.journal();
+    match journal.last() {
+        Some(entry) => journal.len() > before && book.size(entry.a) > LARGE,
+        None => false,
+    }
+}
+
+/// Takes no more pairs, where another worker goes on alone or this one is to; or else the next batch: at most a share of what is
 /// Ready, so that others find pairs too, and at least one.
 fn take_next(
     shared: &mut Shared<'_>,
@@ -381,6 +337,7 @@ fn take_next(
     thieves: &[Thief],
     others: bool,
     lone: bool,
+    alone: bool,
 ) -> Next
     requires board { board_over shared.old.chase.setup shared.old.scribe.board ≡ board.now }
     requires jobs { All (IsJob shared.old.chase.setup.task shared.old.chase.book.journal) workspace.old.jobs.items }
@@ -396,29 +353,13 @@ fn take_next(
         rest(workspace);
         return Next::Leave;
     }
-    if workspace.pace.is_alone() {
+    if alone {
         rest(workspace);
         return Next::GoAlone;
     }
     let share = workspace.share.max(1) as usize;
     let most = (shared.chase.ready_count() / share).max(1);
-    take_all(
-        shared,
-        workspace,
-        board,
-        thieves,
-        most.min(workspace.size),
-        others,
-    )
-}
-
-/// How many names are in the class that the last entry made.
-fn last_class(shared: &Shared<'_>) -> usize {
-    let book = shared.chase.book();
-    match book.journal().last() {
-        Some(entry) => book.size(entry.a) as usize,
-        None => 0,
-    }
+    take_all(shared, workspace, board, thieves, most, others)
 }
 
 /// Settles what was searched, and takes the next batch.
@@ -428,7 +369,6 @@ pub fn settle_and_take(
     board: &Board,
     thieves: &[Thief],
     others: bool,
-    crowded: bool,
     lone: bool,
 ) -> Next
     requires board { board_over shared.old.chase.setup shared.old.scribe.board ≡ board.now }
@@ -442,31 +382,18 @@ pub fn settle_and_take(
     ensures jobs { All (IsJob shared.old.chase.setup.task shared.new.chase.book.journal) workspace.new.jobs.items }
     ensures workspace { IsWorkspace (length shared.old.chase.setup.task.pairs) shared.old.chase.setup.widest board.now thieves.now workspace.new }
 {
-    let found = shared.chase.book().journal().len();
-    let settled = workspace.used;
-    let wasted = settle_all(
+    let before = shared.chase.book().journal().len();
+    settle_all(
         shared,
         board,
         workspace.jobs.as_mut_slice(),
         workspace.used,
-        &mut workspace.spare,
         &mut workspace.woken,
         &mut workspace.pending,
         workspace.count,
     );
-    let left = shared.chase.book().journal().len();
-    let woke = !workspace.pending.is_empty();
-    let turn = Settlement {
-        found,
-        left,
-        settled,
-        wasted,
-        woke,
-        crowded,
-        class: last_class(shared),
-    };
-    note_turn(workspace, turn);
-    let next = take_next(shared, workspace, board, thieves, others, lone);
+    let alone = made_large(shared, before);
+    let next = take_next(shared, workspace, board, thieves, others, lone, alone);
     shared.holds();
     next
 }

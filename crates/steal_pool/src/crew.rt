@@ -29,8 +29,6 @@ pub struct Crew<'a> {
     pub(crate) members: Vec<CrewMember<Shared<'a>>>,
     /// Room for the passes when they come back.
     pub(crate) home: Vec<Pass<Shared<'a>>>,
-    /// How many pairs were Ready.
-    pub(crate) ready: u64,
 }
 
 impl<'a> Model for Crew<'a> {
@@ -112,7 +110,6 @@ fn assemble<'a>(
     thieves: Vec<Thief>,
     workspaces: Vec<Workspace>,
     members: Vec<CrewMember<Shared<'a>>>,
-    ready: u64,
 ) -> Crew<'a>
     requires seats { (0 < seats_of lock) × (seats_of lock ≤ 64) }
     requires passes { length passes.items ≡ seats_of lock }
@@ -138,7 +135,6 @@ fn assemble<'a>(
         thieves,
         members,
         home: passes,
-        ready,
     }
 }
 
@@ -156,7 +152,6 @@ impl<'a> Crew<'a> {
         ensures workers { IfOk result (λ c. c.workers ≡ workers) }
         ensures err { IfErr result (λ e. e.0 ≡ chase.entry) }
     {
-        let ready = chase.ready_count() as u64;
         let Ok(parts) = crew_parts(alloc, &chase, workers) else {
             return Err((chase, NoMemory));
         };
@@ -170,9 +165,7 @@ impl<'a> Crew<'a> {
         // For the proof alone: the journal is shorter than what a lock can count.
         let _ = chase.book();
         match TurnLock::new(alloc, Shared { chase, scribe }, workers) {
-            Ok((lock, passes)) => Ok(assemble(
-                lock, passes, board, thieves, workspaces, members, ready,
-            )),
+            Ok((lock, passes)) => Ok(assemble(lock, passes, board, thieves, workspaces, members)),
             Err((shared, NoMemory)) => {
                 let Shared { chase, .. } = shared;
                 Err((chase, NoMemory))

@@ -22,7 +22,6 @@ const AWAITED: u64 = 2;
 #[derive(Drop)]
 pub struct Door {
     state: AtomicU64,
-    waiting: AtomicU64,
 }
 
 impl Door {
@@ -30,7 +29,6 @@ impl Door {
     pub fn new() -> Door {
         Door {
             state: AtomicU64::new(FREE),
-            waiting: AtomicU64::new(0),
         }
     }
 
@@ -48,9 +46,7 @@ impl Door {
         if self.take(TAKEN) {
             return;
         }
-        self.waiting.fetch_add(1, Ordering::SeqCst);
         self.wait(rt);
-        self.waiting.fetch_sub(1, Ordering::SeqCst);
     }
 
     // Looks for a while, and then sleeps. One that has slept leaves the sign that others may sleep.
@@ -81,10 +77,5 @@ impl Door {
         if self.state.swap(FREE, Ordering::SeqCst) == AWAITED {
             self.state.wake_one();
         }
-    }
-
-    /// How many wait.
-    pub fn waiting(&self) -> u64 {
-        self.waiting.load(Ordering::SeqCst)
     }
 }

@@ -1,10 +1,9 @@
 //! What a worker passes before a search.
 
-/// What stands before each search for a pair: of a worker that has taken it, and of a thread that looks, before workers share
-/// the chase, whether anything can match it. Both pass it while they hold no turn, so a gate may count, or let workers wait for
-/// one another.
+/// What stands before each search of a worker for a pair that it has taken. The worker passes it while it holds no turn, so a
+/// gate may count, or let workers wait for one another.
 pub trait Gate: Sync {
-    /// The worker, or the thread that looks, is about to search for the pair; both are numbers from 0 on.
+    /// The worker is about to search for the pair; both are numbers from 0 on.
     fn pass(&self, worker: u32, pair: u32);
 }
 

@@ -38,7 +38,6 @@ pub fn own_hint(workspace: &mut Workspace, n: u32) -> Option<u32>
     ensures passes { workspace.new.steal_passes ≡ workspace.old.steal_passes }
     ensures pending { All (λ p. p < n) workspace.new.pending.items }
     ensures jobs { workspace.new.jobs ≡ workspace.old.jobs }
-    ensures spare { workspace.new.spare ≡ workspace.old.spare }
     ensures hint { IfSome result (λ p. p < n) }
 {
     if let Some(hint) = workspace.pending.pop() {
@@ -58,7 +57,6 @@ pub fn next_hint(workspace: &mut Workspace, thieves: &[Thief], n: u32) -> Option
     ensures passes { ReachEach n thieves.now workspace.new.steal_passes.items }
     ensures pending { All (λ p. p < n) workspace.new.pending.items }
     ensures jobs { workspace.new.jobs ≡ workspace.old.jobs }
-    ensures spare { workspace.new.spare ≡ workspace.old.spare }
     ensures hint { IfSome result (λ p. p < n) }
 {
     if let Some(hint) = own_hint(workspace, n) {

@@ -12,11 +12,8 @@
 //! - `threads`: workers in threads of their own, over any value
 //! - `worker`: what a worker does until it ends
 //! - `search`: searches by labels of the board
-//! - `implied`: pairs that need no search, since what was found joins their ends
 //! - `turns`: a turn of a worker
 //! - `batch`: what a worker does with the chase in a turn
-//! - `pace`: how a worker's turns go
-//! - `tally`: what the turns of all workers come to
 //! - `signs`: what workers tell one another without the lock
 //! - `door`: what a worker passes before its turn
 //! - `alone`: what a worker does that has a chase for itself
@@ -39,13 +36,10 @@ mod gate;
 mod hint_rule;
 mod hints;
 mod hunt;
-mod implied;
-mod pace;
 mod run;
 mod search;
 mod shared;
 mod signs;
-mod tally;
 mod threads;
 mod turns;
 mod worker;

@@ -38,10 +38,9 @@ pub fn run_crew<'a, G: Gate, R: Threads + Wait + Sync>(
         thieves,
         mut members,
         mut home,
-        ready,
     } = crew;
     let alone = members.len() == 1;
-    let signs = Signs::new(ready);
+    let signs = Signs::new();
     work_all(
         rt,
         &lock,

@@ -1,21 +1,18 @@
 //! The chase with the scribe of its board, as a value with a journal.
 
-ghost use Rattle.std.specs.Prelude.{◌≡◌, ◌≤◌, ◌++◌, ◌<◌, ◌^◌, ◌↔◌, ℕ, List, All, IfSome, IsFalse, IsTrue, MatchOption, length};
+ghost use Rattle.std.specs.Prelude.{◌≡◌, ◌++◌, ◌<◌, ◌^◌, ℕ, List, All, IfSome, IsTrue, MatchOption, length};
 ghost use Rattle.chase_laws.specs.declared.entry.Entry.{Entry};
 ghost use Rattle.chase_laws.specs.Joined.{Joined};
 ghost use Rattle.chase_laws.specs.View.{same_by};
-ghost use Rattle.chase_laws.specs.Core.{Happens, IsPresent, ListsNear, PairAt, State};
+ghost use Rattle.chase_laws.specs.Core.{Happens, ListsNear, PairAt, State};
 ghost use Rattle.chase_laws.specs.Core.Event.{Enter};
-ghost use Rattle.chase_core.specs.declared.ticket.Outcome.{Outcome};
 ghost use Rattle.chase_core.specs.declared.ticket.Outcome.TheVariants.{Found, Missed};
-ghost use Rattle.chase_core.specs.declared.ticket.Settled.TheVariants.{Already};
 ghost use Rattle.chase_core.specs.Running.{IsRunning, state_in};
-ghost use Rattle.chase_core.specs.Settling.{IsFoundBy, IsRightOutcome, Notes, Settles};
+ghost use Rattle.chase_core.specs.Settling.{IsFoundBy, Settles};
 ghost use Rattle.chase_core.specs.Taking.{TakesFirst, TakesHint, pair_of};
 ghost use Rattle.label_board.specs.Seen.{AllShown};
 ghost use Rattle.steal_pool.specs.Bases.{IsSince, base_with, board_over};
 
-use crate::search::refresh;
 use chase_core::held_law::law_held;
 use chase_core::{Chase, Outcome, Settled, Setup, Ticket, Woken};
 use chase_laws::Entry;
@@ -72,39 +69,6 @@ fn meet_scribe(board: &Board, watcher: &mut Watcher, scribe: &mut Scribe)
 {
     law_met();
     board.meet(watcher, scribe);
-}
-
-/// Whether a view has the present labels, which the watcher filled since there were so many entries. Where there are no more
-/// entries, the watcher meets the scribe: the view has the present labels, and nothing is compared. Else its labels are compared
-/// with those of the book.
-#[inline]
-fn has_present_labels(
-    chase: &Chase<'_>,
-    board: &Board,
-    watcher: &mut Watcher,
-    scribe: &mut Scribe,
-    since: usize,
-    ticket: Ticket,
-    view: &View,
-) -> bool
-    requires watcher { (watcher.old.board ≡ board.now.id) × (watcher.old.read ≡ view.now.pairs) }
-    requires scribe { scribe.old.board ≡ board.now.id }
-    requires posted { scribe.old.posted ≡ chase.now.book.journal }
-    requires shown { scribe.old.shown ≡ chase.now.book.labels }
-    requires since { IsSince chase.now.book.journal watcher.old.since since }
-    requires near { ListsNear chase.now.setup.task ticket.a ticket.b view.now.pairs }
-    ensures present { IsTrue result ↔ IsPresent (state_in chase.now) view.now.pairs }
-    ensures watcher { watcher.new ≡ watcher.old }
-    ensures scribe { scribe.new ≡ scribe.old }
-{
-    law_fresh();
-    let is_fresh = chase.book().journal().len() == since;
-    if is_fresh {
-        meet_scribe(board, watcher, scribe);
-        true
-    } else {
-        chase.is_present(ticket, view)
-    }
 }
 
 impl<'a> Shared<'a> {
@@ -173,25 +137,9 @@ impl<'a> Shared<'a> {
         settled
     }
 
-    /// Settles a pair that was taken where its ends are joined by now, and answers whether they are. Where they are not, the chase
-    /// stays as it was. Nothing is entered, so nothing is posted.
-    pub(crate) fn settle_joined(&mut self, ticket: Ticket) -> bool
-        requires { PairAt self.old.chase.setup.task ticket.pair ticket.a ticket.b }
-        ensures settles { IsTrue result → (view : List (ℕ × ℕ)) (found : Outcome) → Settles self.old.chase ticket view found Already self.new.chase }
-        ensures joined { IsTrue result ↔ Joined self.old.chase.book.journal ticket.a ticket.b }
-        ensures unchanged { IsFalse result → self.new.chase ≡ self.old.chase }
-        ensures setup { self.new.chase.setup ≡ self.old.chase.setup }
-        ensures book { self.new.chase.book ≡ self.old.chase.book }
-        ensures scribe { self.new.scribe ≡ self.old.scribe }
-    {
-        self.chase.settle_joined(ticket)
-    }
-
     /// Settles a pair that was taken, of which a search found nothing with a view that the watcher filled since there were so
     /// many entries. Where there are no more entries, the watcher meets the scribe: the view has the present labels, and nothing is
-    /// compared. Else its labels are compared with those of the book, and where one is not the present one, the view is what the
-    /// board shows now, if that tells of no more that is the same. Nothing is entered, so nothing is posted, and no finding is
-    /// passed on: this is what becomes of nearly all pairs.
+    /// compared. Nothing is entered, so nothing is posted, and no finding is passed on: this is what becomes of nearly all pairs.
     #[inline]
     pub(crate) fn settle_missed(
         &mut self,
@@ -199,39 +147,29 @@ impl<'a> Shared<'a> {
         watcher: &mut Watcher,
         since: usize,
         ticket: Ticket,
-        view: &mut View,
-        spare: &mut View,
+        view: &View,
         woken: &mut Woken,
     ) -> Settled
         requires board { board_over self.old.chase.setup self.old.scribe.board ≡ board.now }
-        requires watcher { (watcher.old.board ≡ board.now.id) × (watcher.old.read ≡ view.old.pairs) }
+        requires watcher { (watcher.old.board ≡ board.now.id) × (watcher.old.read ≡ view.now.pairs) }
         requires since { IsSince self.old.chase.book.journal watcher.old.since since }
-        requires rooms { (self.old.chase.setup.widest ≤ view.old.room) × (self.old.chase.setup.widest ≤ spare.old.room) }
         requires ends { PairAt self.old.chase.setup.task ticket.pair ticket.a ticket.b }
-        requires near { ListsNear self.old.chase.setup.task ticket.a ticket.b view.old.pairs }
-        requires found { IsFoundBy self.old.chase.setup.task ticket view.old.pairs Missed }
-        ensures settles { Settles self.old.chase ticket view.new.pairs Missed result self.new.chase }
-        ensures watcher { watcher.new.board ≡ watcher.old.board }
-        ensures rooms { (self.old.chase.setup.widest ≤ view.new.room) × (self.old.chase.setup.widest ≤ spare.new.room) }
+        requires near { ListsNear self.old.chase.setup.task ticket.a ticket.b view.now.pairs }
+        requires found { IsFoundBy self.old.chase.setup.task ticket view.now.pairs Missed }
+        ensures settles { Settles self.old.chase ticket view.now.pairs Missed result self.new.chase }
+        ensures watcher { watcher.new ≡ watcher.old }
         ensures setup { self.new.chase.setup ≡ self.old.chase.setup }
         ensures board { self.new.scribe.board ≡ self.old.scribe.board }
         ensures book { self.new.chase.book ≡ self.old.chase.book }
         ensures woken { All (λ p. p < length self.old.chase.setup.task.pairs) woken.new.list }
     {
+        law_fresh();
         self.holds();
-        let is_present = has_present_labels(
-            &self.chase,
-            board,
-            watcher,
-            &mut self.scribe,
-            since,
-            ticket,
-            view,
-        );
-        if is_present {
+        let is_fresh = self.chase.book().journal().len() == since;
+        if is_fresh {
+            meet_scribe(board, watcher, &mut self.scribe);
             return self.chase.settle_missed(ticket, view, woken);
         }
-        refresh(self.chase.setup(), board, &ticket, watcher, view, spare);
         self.chase.settle(ticket, view, Outcome::Missed, woken)
     }
 }

@@ -1,7 +1,6 @@
 //! What workers tell one another without the lock.
 
 use crate::door::Door;
-use crate::tally::Tally;
 use std::sync::atomic::{AtomicU64, Ordering};
 
 /// What workers tell one another without the lock. Nothing is proved of it: each word may be old when it is read.
@@ -13,17 +12,15 @@ pub struct Signs {
     lone: AtomicU64,
     /// What a worker passes before its turn.
     pub door: Door,
-    pub tally: Tally,
 }
 
 impl Signs {
-    /// Nobody searches, and nobody goes on alone. So many pairs are Ready.
-    pub fn new(ready: u64) -> Signs {
+    /// Nobody searches, and nobody goes on alone.
+    pub fn new() -> Signs {
         Signs {
             in_search: AtomicU64::new(0),
             lone: AtomicU64::new(0),
             door: Door::new(),
-            tally: Tally::new(ready),
         }
     }
 

@@ -11,7 +11,6 @@ use crate::hints::Thief;
 use crate::hunt::push_kept;
 use crate::shared::Shared;
 use crate::signs::Signs;
-use crate::workspace::Workspace;
 use chase_core::Setup;
 use label_board::Board;
 use std::sync::Wait;
@@ -37,16 +36,6 @@ fn push_woken<'a>(
     );
 }
 
-/// Counts a turn that is about to end, of one of so many workers.
-fn note_turn(signs: &Signs, workspace: &Workspace, workers: usize) {
-    signs.tally.note(
-        workspace.pace.settled as u64,
-        workspace.pace.spent as u64,
-        signs.door.waiting(),
-        (workers as u64).saturating_sub(1),
-    );
-}
-
 /// A turn in which the worker's jobs are settled, and the next pairs taken.
 fn settle_and_take_in_turn<'a, R: Wait>(
     rt: &R,
@@ -66,22 +55,12 @@ fn settle_and_take_in_turn<'a, R: Wait>(
     let mut turn = lock.enter(rt, &mut member.pass);
     let shared = turn.value();
     let others = signs.searching() > u64::from(searched);
-    let crowded = signs.tally.is_crowded();
     let lone = signs.lone() > 0;
-    let next = settle_and_take(
-        shared,
-        &mut member.workspace,
-        board,
-        thieves,
-        others,
-        crowded,
-        lone,
-    );
+    let next = settle_and_take(shared, &mut member.workspace, board, thieves, others, lone);
     let setup = shared.chase.setup();
     if let Next::GoAlone = next {
         signs.go_alone(member.workspace.number);
     }
-    note_turn(signs, &member.workspace, thieves.len());
     signs.count_in(searched, member.workspace.searches);
     lock.leave(turn, &mut member.pass);
     signs.door.leave();

@@ -15,8 +15,7 @@ use crate::crew_member::CrewMember;
 use crate::gate::Gate;
 use crate::hints::Thief;
 use crate::hunt::keep_hint;
-use crate::implied::FoundPairs;
-use crate::search::{search_again, search_unless};
+use crate::search::search_job;
 use crate::shared::Shared;
 use crate::signs::Signs;
 use crate::threads::Work;
@@ -28,7 +27,7 @@ use std::sync::Wait;
 use std::thread;
 use turn_lock::TurnLock;
 
-/// Searches for the pair of one of a worker's jobs, or passes it over where it is implied by what was found.
+/// Searches for the pair of one of a worker's jobs.
 fn search_at<'a>(
     lock: &TurnLock<Shared<'a>>,
     board: &Board,
@@ -36,7 +35,6 @@ fn search_at<'a>(
     setup: &Setup,
     member: &mut CrewMember<Shared<'a>>,
     k: usize,
-    is_implied: bool,
 )
     requires at_work { IsAtWork lock.now board.now thieves.now member.old }
     requires names { board.now.names ≡ name_count setup.now.task }
@@ -46,46 +44,7 @@ fn search_at<'a>(
     ensures setup { base_of member.new.pass ≡ Some (setup.now, board.now) }
     ensures count { length member.new.workspace.jobs.items ≡ length member.old.workspace.jobs.items }
 {
-    search_unless(setup, board, &mut member.workspace.jobs[k], is_implied);
-}
-
-/// Looks at the board again for one of a worker's jobs.
-fn search_again_at<'a>(
-    lock: &TurnLock<Shared<'a>>,
-    board: &Board,
-    thieves: &[Thief],
-    setup: &Setup,
-    member: &mut CrewMember<Shared<'a>>,
-    k: usize,
-)
-    requires at_work { IsAtWork lock.now board.now thieves.now member.old }
-    requires names { board.now.names ≡ name_count setup.now.task }
-    requires setup { base_of member.old.pass ≡ Some (setup.now, board.now) }
-    requires within { k < length member.old.workspace.jobs.items }
-    ensures at_work { IsAtWork lock.now board.now thieves.now member.new }
-    ensures setup { base_of member.new.pass ≡ Some (setup.now, board.now) }
-    ensures count { length member.new.workspace.jobs.items ≡ length member.old.workspace.jobs.items }
-{
-    let workspace = &mut member.workspace;
-    search_again(setup, board, &mut workspace.jobs[k], &mut workspace.spare);
-}
-
-/// Looks at the board again for each job of the present batch whose search has failed.
-fn again_all<'a>(
-    lock: &TurnLock<Shared<'a>>,
-    board: &Board,
-    thieves: &[Thief],
-    setup: &Setup,
-    member: &mut CrewMember<Shared<'a>>,
-)
-    requires at_work { IsAtWork lock.now board.now thieves.now member.old }
-    requires names { board.now.names ≡ name_count setup.now.task }
-    requires setup { base_of member.old.pass ≡ Some (setup.now, board.now) }
-    ensures { IsAtWork lock.now board.now thieves.now member.new }
-{
-    for k in 0..member.workspace.used.min(member.workspace.jobs.len()) {
-        search_again_at(lock, board, thieves, setup, member, k);
-    }
+    search_job(setup, board, &mut member.workspace.jobs[k]);
 }
 
 /// Lets no job have a pair.
@@ -174,20 +133,11 @@ impl<'a> Work for Shared<'a> {
                 Next::GoAlone => return,
                 Next::LookAgain => look_again(rt, lock, board, thieves, signs, member),
                 Next::Search => {
-                    let posted = board.posted_count();
-                    let mut found = FoundPairs::none();
                     for k in 0..member.workspace.used.min(member.workspace.jobs.len()) {
                         if let Progress::Taken(ticket) = member.workspace.jobs[k].progress {
-                            let is_implied = found.join(&ticket);
-                            if !is_implied {
-                                gate.pass(member.workspace.number, ticket.pair);
-                            }
-                            search_at(lock, board, thieves, setup, member, k, is_implied);
-                            found.note(member.workspace.jobs[k].progress);
+                            gate.pass(member.workspace.number, ticket.pair);
+                            search_at(lock, board, thieves, setup, member, k);
                         }
-                    }
-                    if board.posted_count() != posted {
-                        again_all(lock, board, thieves, setup, member);
                     }
                 }
             }

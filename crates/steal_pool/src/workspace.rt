@@ -1,7 +1,6 @@
 //! What a worker has besides its pass of the lock.
 
 use crate::hints::{HintDeque, ThiefPass};
-use crate::pace::Pace;
 use chase_core::{Ticket, Woken};
 use label_board::Watcher;
 use paired_search::{Finding, View};
@@ -26,8 +25,6 @@ pub enum Progress {
     Missed(Ticket),
     /// The pair was searched, and the job has what was found.
     Found(Ticket),
-    /// The pair was passed over: what was found before it in the batch joins its ends when it is settled.
-    Implied(Ticket),
 }
 
 /// A place of a worker's batch: a pair from its take to its settling, and the view that it is searched by, with the watcher
@@ -60,15 +57,9 @@ pub struct Workspace {
     pub woken: Woken,
     /// A batch takes at most one in so many of the Ready pairs.
     pub share: u32,
-    /// How many pairs the next batch takes at most.
-    pub size: usize,
     /// How many of the jobs the present batch uses.
     pub used: usize,
-    /// How its turns go.
-    pub pace: Pace,
     /// Whether the present batch has a pair.
     pub searches: bool,
     pub jobs: Vec<Job>,
-    /// A view for a second look at the board.
-    pub spare: View,
 }

@@ -5,7 +5,6 @@ ghost use Rattle.steal_pool.specs.Workspaces.{IsPlace, IsOwnDeque, IsWorkspace, 
 
 use crate::deques::{deal, deques, steal_passes_of, thieves_of};
 use crate::hints::{HintDeque, Thief};
-use crate::pace::Pace;
 use crate::workspace::{Job, Progress, StealPass, Workspace};
 use chase_core::{Setup, Woken};
 use chase_laws::Places;
@@ -93,7 +92,7 @@ fn free_jobs(
     Ok(jobs)
 }
 
-/// One workspace. At first a batch has one pair.
+/// One workspace.
 fn workspace_of(
     alloc: Global,
     setup: &Setup,
@@ -108,10 +107,8 @@ fn workspace_of(
     ensures passes { IfOk result (λ w. w.steal_passes ≡ steal_passes) }
     ensures pending { IfOk result (λ w. w.pending.items ≡ []) }
     ensures jobs { IfOk result (λ w. w.jobs ≡ jobs) }
-    ensures spare { IfOk result (λ w. setup.now.widest ≤ w.spare.room) }
 {
     let count = setup.pairs().len() as u32;
-    let spare = View::new(alloc, setup.widest())?;
     let woken = Woken::new(alloc, WOKEN)?;
     let pending = Vec::with_capacity(alloc, WOKEN as usize)?;
     Ok(Workspace {
@@ -122,12 +119,9 @@ fn workspace_of(
         pending,
         woken,
         share,
-        size: 1,
         used: 0,
-        pace: Pace::new(),
         searches: false,
         jobs,
-        spare,
     })
 }
 

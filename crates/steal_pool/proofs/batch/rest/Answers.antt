@@ -7,5 +7,4 @@ returns-clause-workspace c = λ n widest on thieves h. record {
   passes = h.passes;
   pending = h.pending;
   places = h.places;
-  spare = h.spare;
 }

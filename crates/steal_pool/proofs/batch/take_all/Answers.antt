@@ -32,7 +32,6 @@ loop-k-preserved c =
         places = All-set (IsPlace S.widest c.args.board.now) jobs c.loop-k.k c.fill_job.new.job
             (subst (λ (S' : Preparation). IsPlace S'.widest c.args.board.now c.fill_job.new.job) v.setup t.place)
             places;
-        spare = rw h.spare v.workspace.spare;
       };
     }
 
@@ -47,7 +46,6 @@ returns-then-is_through-clause-workspace c =
       passes = subst (λ (n : ℕ). ReachEach n c.args.thieves.now c.hint_unless-hint.new.workspace.steal_passes.items) c.requires.workspace.count h.passes;
       pending = subst (λ (n : ℕ). All (λ p. p < n) c.hint_unless-hint.new.workspace.pending.items) c.requires.workspace.count h.pending;
       places = rw h.jobs v.workspace.places;
-      spare = rw h.spare v.workspace.spare;
     })
 
 pub returns-then-dry-2-clause-workspace : goal.returns-then-dry-2-clause-workspace
@@ -65,7 +63,6 @@ returns-then-dry-2-clause-workspace c =
       places = All-set (IsPlace S.widest c.args.board.now) jobs c.loop-k.k c.fill_job.new.job
           (subst (λ (S' : Preparation). IsPlace S'.widest c.args.board.now c.fill_job.new.job) v.setup c.fill_job.ensures.place)
           places;
-      spare = rw h.spare v.workspace.spare;
     })
 
 pub returns-clause-workspace : goal.returns-clause-workspace

@@ -20,5 +20,4 @@ returns-in-None-clause-workspace c = λ n widest on h.
       passes = subst (λ (k : ℕ). ReachEach k c.args.thieves.now c.next_hint.new.workspace.steal_passes.items) h.count e.passes;
       pending = subst (λ (k : ℕ). All (λ p. p < k) c.next_hint.new.workspace.pending.items) h.count e.pending;
       places = rw e.jobs h.places;
-      spare = rw e.spare h.spare;
     }

@@ -25,7 +25,6 @@ returns-clause-at_work c =
           passes = w.passes;
           pending = rw c.push_kept.ensures.empty (λ k d l. absurd (omega arith));
           places = w.places;
-          spare = w.spare;
         };
       };
       jobs = c.requires.jobs;

@@ -17,7 +17,6 @@ returns c =
           passes = r.workspace.passes;
           pending = r.workspace.pending;
           places = c.free_all.ensures.places r.base.0.widest c.args.board.now r.workspace.places;
-          spare = r.workspace.spare;
         };
       };
       jobs = λ B e. c.free_all.ensures.jobs B.0.task (seen c.args.member.now.pass);

@@ -10,15 +10,15 @@ use Rattle.steal_pool.specs.Workspaces.{IsPlace}
 use Rattle.steal_pool.proofs.Jobs.{same_base}
 use Rattle.steal_pool.proofs.worker.search_at.Goals as goal
 
-pub search_unless-requires-clause-place : goal.search_unless-requires-clause-place
-search_unless-requires-clause-place c =
+pub search_job-requires-clause-place : goal.search_job-requires-clause-place
+search_job-requires-clause-place c =
     let b = c.requires.at_work in
     let same = same_base b.member.base (c.args.setup.now, c.args.board.now) (sym b.member.based ∙ c.requires.setup) in
     subst (λ (B : Base). IsPlace B.0.widest c.args.board.now c.index_mut.result.now) same
     (subst (λ (j : Job). IsPlace b.member.base.0.widest c.args.board.now j) (sym c.index_mut.ensures.value) (b.member.workspace.places c.args.k c.index_mut.result.now c.requires.within))
 
-pub search_unless-requires-clause-job : goal.search_unless-requires-clause-job
-search_unless-requires-clause-job c = (
+pub search_job-requires-clause-job : goal.search_job-requires-clause-job
+search_job-requires-clause-job c = (
   seen c.args.member.now.pass,
   subst (λ (j : Job). IsJob c.args.setup.now.task (seen c.args.member.now.pass) j) (sym c.index_mut.ensures.value)
       (c.requires.at_work.jobs (c.args.setup.now, c.args.board.now) c.requires.setup c.args.k c.index_mut.result.now c.requires.within),
@@ -45,14 +45,13 @@ returns-clause-at_work c =
           own = w.own;
           passes = w.passes;
           pending = w.pending;
-          places = All-set (IsPlace b.member.base.0.widest c.args.board.now) jobs c.args.k c.search_unless.new.job
-              (subst (λ (Z : Base). IsPlace Z.0.widest c.args.board.now c.search_unless.new.job) same c.search_unless.ensures.place)
+          places = All-set (IsPlace b.member.base.0.widest c.args.board.now) jobs c.args.k c.search_job.new.job
+              (subst (λ (Z : Base). IsPlace Z.0.widest c.args.board.now c.search_job.new.job) same c.search_job.ensures.place)
               w.places;
-          spare = w.spare;
         };
       };
-      jobs = λ Z e. subst (λ (Y : Base). All (IsJob Y.0.task log) (set jobs c.args.k c.search_unless.new.job)) (same_base B Z (sym c.requires.setup ∙ e))
-          (All-set (IsJob S.task log) jobs c.args.k c.search_unless.new.job
-          (c.search_unless.ensures.job log (subst (λ (j : Job). IsJob S.task log j) (sym c.index_mut.ensures.value) (b.jobs B c.requires.setup c.args.k c.index_mut.result.now c.requires.within)))
+      jobs = λ Z e. subst (λ (Y : Base). All (IsJob Y.0.task log) (set jobs c.args.k c.search_job.new.job)) (same_base B Z (sym c.requires.setup ∙ e))
+          (All-set (IsJob S.task log) jobs c.args.k c.search_job.new.job
+          (c.search_job.ensures.job log (subst (λ (j : Job). IsJob S.task log j) (sym c.index_mut.ensures.value) (b.jobs B c.requires.setup c.args.k c.index_mut.result.now c.requires.within)))
           (b.jobs B c.requires.setup));
     }

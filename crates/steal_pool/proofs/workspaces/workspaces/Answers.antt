@@ -27,5 +27,5 @@ loop-own-preserved c =
       watchers = c.in_ok-jobs.ensures.watchers;
       workspaces = rw c.push_reserved.ensures.items (All-push (IsWorkspace (length c.args.setup.now.task.pairs) c.args.setup.now.widest c.args.board.now c.in_ok-thieves.thieves.items) c.loop-own.workspaces.items c.in_ok-workspace.workspace v.workspaces
           (workspace_made _ _ _ c.args.board.now c.in_ok-thieves.thieves.items c.in_ok-workspace.workspace c.in-Some.own c.unwrap-passes.result (ap length c.pairs.ensures.pairs)
-          e.count e.own e.passes e.pending (subst (λ (js : Vec Job Global). All (IsPlace c.args.setup.now.widest c.args.board.now) js.items) (sym e.jobs) (subst (λ n. All (IsPlace n c.args.board.now) c.in_ok-jobs.jobs.items) c.widest-widest.ensures.widest c.in_ok-jobs.ensures.places)) e.spare os.1 (subst (λ (r : Option (Vec StealPass Global)). IfSome r R) c.unwrap-passes.ensures rs.1)));
+          e.count e.own e.passes e.pending (subst (λ (js : Vec Job Global). All (IsPlace c.args.setup.now.widest c.args.board.now) js.items) (sym e.jobs) (subst (λ n. All (IsPlace n c.args.board.now) c.in_ok-jobs.jobs.items) c.widest-widest.ensures.widest c.in_ok-jobs.ensures.places)) os.1 (subst (λ (r : Option (Vec StealPass Global)). IfSome r R) c.unwrap-passes.ensures rs.1)));
     }

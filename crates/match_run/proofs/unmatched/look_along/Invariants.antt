@@ -1,6 +1,0 @@
-use Rattle.std.proofs.Common.{All}
-use Rattle.chase_core.specs.Present.{same_by_labels, IsUnmatchedBy}
-use Rattle.match_run.proofs.unmatched.look_along.Given as goal
-
-abbrev pub invariant-loop-pair : goal.invariant-loop-pair
-invariant-loop-pair g l = All (IsUnmatchedBy l.chase.setup.task (same_by_labels l.classes)) l.unmatched.items
