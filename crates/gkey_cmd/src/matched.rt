@@ -9,6 +9,7 @@ ghost use Rattle.gkey_cmd.specs.ChaseEnds.{MatchEnds};
 use crate::chased::{ChaseOptions, chase_files};
 use crate::ending::Ending;
 use chase_laws::laws::law_rows;
+use chase_ways::Finished;
 use graph_rows::Rows;
 use key_lang::KeyFile;
 use std::alloc::Global;
@@ -31,6 +32,9 @@ pub fn match_files<Rt: Threads + Wait + Sync, G: Gate>(
 {
     law_rows();
     let (names, finished) = chase_files(rt, alloc, rows, keys, options)?;
-    let report = report(rt, alloc, options.workers, &names, &finished.labels)?;
+    let Finished { ground, labels, .. } = finished;
+    // What was chased is needed no more, and the texts of a report take much memory.
+    drop(ground);
+    let report = report(rt, alloc, options.workers, &names, &labels)?;
     Ok(report.into_vec())
 }
