@@ -62,8 +62,10 @@ def main():
     for part, taken in ticks.values():
         parts[part] += taken / TICKS
     print(COLUMNS.format("crate", "proof", "tests", "edits", "all"))
-    rows = {name: [parts[name, kind] for kind in ("proof", "tests", "edits")] for name, _ in parts}
-    for name, row in [*sorted(rows.items(), key=lambda it: -sum(it[1])), ("all", [sum(column) for column in zip(*rows.values())])]:
+    kinds = ("proof", "tests", "edits")
+    rows = {name: [parts[name, kind] for kind in kinds] for name, _ in parts}
+    whole = [sum(row[place] for row in rows.values()) for place in range(len(kinds))]
+    for name, row in [*sorted(rows.items(), key=lambda it: -sum(it[1])), ("all", whole)]:
         print(COLUMNS.format(name, *(f"{seconds:.0f}" for seconds in [*row, sum(row)])))
     print("load of the machine:", *(f"{load:.1f}" for load in os.getloadavg()), "with", os.cpu_count(), "processors")
     sys.exit(gate.returncode)
