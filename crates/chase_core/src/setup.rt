@@ -81,20 +81,17 @@ impl Setup {
         requires able { (a b : ℕ) → IsAble graph patterns.items a b → Contains pairs.items (a, b) }
         ensures { IfOk result (λ s. s.task ≡ record { graph = graph; patterns = patterns.items; pairs = pairs.items }) }
     {
-        let near = Near::build(alloc, &graph, &patterns)?;
-        Setup::with_near(alloc, graph, patterns, pairs, Vec::new(alloc), near)
+        Setup::with_keys(alloc, graph, patterns, pairs, Vec::new(alloc))
     }
 
-    /// Prepares a chase as `new` does, over near lists that were made of the graph and the patterns before, in which only the
-    /// keys of its range are searched for a pair: those outside of it can't identify the pair, whatever is the same. For a pair
-    /// without a range all keys are searched.
-    pub fn with_near(
+    /// Prepares a chase as `new` does, in which only the keys of its range are searched for a pair: those outside of it can't
+    /// identify the pair, whatever is the same. For a pair without a range all keys are searched.
+    pub fn with_keys(
         alloc: Global,
         graph: Graph,
         patterns: Vec<Pattern>,
         pairs: Vec<(u32, u32)>,
         keys: Vec<KeyRange>,
-        near: Near,
     ) -> Result<Setup, NoMemory>
         requires few_patterns { length patterns.items < 2 ^ 32 }
         requires few_pairs { length pairs.items < 2 ^ 32 }
@@ -102,12 +99,12 @@ impl Setup {
         requires named { All (λ p. (p.0 < p.1) × (p.1 < length graph.literal)) pairs.items }
         requires able { (a b : ℕ) → IsAble graph patterns.items a b → Contains pairs.items (a, b) }
         requires keys { AreRangesFor graph patterns.items pairs.items keys.items }
-        requires near { AreNearNames graph patterns.items near.near }
         ensures { IfOk result (λ s. s.task ≡ record { graph = graph; patterns = patterns.items; pairs = pairs.items }) }
     {
         let names = graph.names();
         all_valid(&patterns);
         let plans = plan_all(alloc, &patterns)?;
+        let near = Near::build(alloc, &graph, &patterns)?;
         let ends = pairs_by_end(alloc, &pairs, names)?;
         let widest = most_near(&near, &pairs).min(u64::from(names)) as u32;
         Ok(Setup {

@@ -3,7 +3,6 @@
 //!
 //! - `filtering`: which candidate pairs a filter keeps
 //! - `graphs`: a graph and its look-ups
-//! - `near_runs`: near lists of many names by several threads
 //! - `nearness`: what is near to what
 //! - `plans`: in which order a search goes through slots
 //! - `searching`: what a search with a view finds
@@ -14,8 +13,6 @@
 mod filtering;
 #[cfg(test)]
 mod graphs;
-#[cfg(test)]
-mod near_runs;
 #[cfg(test)]
 mod nearness;
 #[cfg(test)]

@@ -8,10 +8,10 @@ use Rattle.chase_laws.specs.Pairing.{ArePairedBy}
 use Rattle.paired_search.specs.declared.key_range.KeyRange.{KeyRange}
 use Rattle.chase_core.specs.Setup.{AreRangesFor}
 
--- Of so many candidate pairs exactly those that some key pairs to depth 2, ascending, with ranges of keys: every pair that a
+-- Of so many candidate pairs exactly those that some key pairs to the depth of the filter, ascending, with ranges of keys: every pair that a
 -- step can identify is among them, and no key outside of its range can identify it.
 pub record AreKept (G : NumberedGraph) (K : List Shape) (pairs : List (ℕ × ℕ)) (ranges : List KeyRange) (seeded : ℕ) : Type 0 where
-  pub exact : (a b : ℕ) → Contains pairs (a, b) ↔ (IsCandidate G K a b × ArePairedBy G K 2 a b)
+  pub exact : (a b : ℕ) → Contains pairs (a, b) ↔ (IsCandidate G K a b × ArePairedBy G K filter_depth a b)
   pub few : length pairs < 2 ^ 32
   pub ascend : AreAscending pairs
   pub named : All (λ p. (p.0 < p.1) × (p.1 < length G.literal)) pairs

@@ -5,7 +5,7 @@ ghost use Rattle.std.specs.Option.{ForSome};
 ghost use Rattle.chase_laws.specs.Candidate.{IsCandidate, IsCandidateCount};
 ghost use Rattle.chase_laws.specs.Graph.{IsFolding};
 ghost use Rattle.chase_laws.specs.Pairing.{ArePairedBy};
-ghost use Rattle.near_lists.specs.Neighbourhoods.{AreNearNames};
+ghost use Rattle.pair_filter.specs.Depth.{filter_depth};
 ghost use Rattle.pair_seed.specs.Pairs.{HasMoreCandidates};
 ghost use Rattle.pair_seed.specs.Stop.{IsRightStop};
 ghost use Rattle.match_run.specs.Kept.{AreKept};
@@ -14,11 +14,10 @@ ghost use Rattle.match_run.specs.Parts.{graph_of_parts, HasPartsOf};
 use chase_core::Setup;
 use chase_laws::Pattern;
 use chase_laws::laws::law_rows;
-use near_lists::Near;
 use pair_filter::{KeptPairs, keep_with_keys};
 use pair_seed::{SeedStop, seed_in_threads};
 use std::alloc::Global;
-use std::thread::{Threads, join};
+use std::thread::Threads;
 use typed_graph::Graph;
 
 /// What a chase works on, and how many candidate pairs there are, those that the filter rules out counted too.
@@ -29,9 +28,6 @@ pub struct Prepared {
     pub seeded: u64,
 }
 
-/// In a graph of fewer names a thread costs more than it saves.
-const FEW_NAMES: u32 = 4096;
-
 /// The candidate pairs that the filter keeps, and how many there were before.
 #[derive(Drop)]
 struct Candidates {
@@ -40,7 +36,7 @@ struct Candidates {
     seeded: u64,
 }
 
-/// Finds the candidate pairs, and keeps those that some key pairs to depth 2. `threads` says how many threads may find and filter
+/// Finds the candidate pairs, and keeps those that some key pairs to the depth of the filter. `threads` says how many threads may find and filter
 /// them, the caller's among them.
 fn kept_candidates<R: Threads + Sync>(
     rt: &R,
@@ -61,42 +57,8 @@ fn kept_candidates<R: Threads + Sync>(
     Ok(Candidates { kept, seeded })
 }
 
-/// The candidate pairs that are kept, and the near lists. With two threads or more the near lists of a larger graph are made
-/// meanwhile, by half as many more. What stops the candidates is the answer, whatever became of the near lists.
-fn candidates_and_near<R: Threads + Sync>(
-    rt: &R,
-    alloc: Global,
-    threads: u32,
-    graph: &Graph,
-    patterns: &[Pattern],
-    limit: u64,
-) -> Result<(Candidates, Near), SeedStop>
-    requires { limit < 2 ^ 32 }
-    ensures kept { IfOk result (λ r. AreKept graph.now patterns.now r.0.kept.pairs.items r.0.kept.keys.items r.0.seeded) }
-    ensures near { IfOk result (λ r. AreNearNames graph.now patterns.now r.1.near) }
-    ensures no_more { OnOk result (¬ (HasMoreCandidates graph.now patterns.now limit)) }
-    ensures stop { IfErr result (IsRightStop graph.now patterns.now limit) }
-{
-    if threads < 2 || graph.names() < FEW_NAMES {
-        let candidates = kept_candidates(rt, alloc, threads, graph, patterns, limit)?;
-        let near = Near::build(alloc, graph, patterns)?;
-        return Ok((candidates, near));
-    }
-    // From three on one fewer, so that the near lists, which are made sooner, have a processor of their own.
-    let others = threads.saturating_sub(1).max(2);
-    let (near, candidates) = join(
-        rt,
-        || Near::build_in_threads(rt, alloc, threads / 2, graph, patterns),
-        || -> Result<Candidates, SeedStop>
-            requires { limit < 2 ^ 32 }
-        { kept_candidates(rt, alloc, others, graph, patterns, limit) },
-    );
-    Ok((candidates?, near?))
-}
-
-/// Prepares a chase of a graph under keys, over those of the candidate pairs that some key pairs to depth 2. `threads` says how
-/// many threads may work on it, the caller's among them, and up to half as many more may make the near lists of a larger graph
-/// meanwhile. The answer is the same.
+/// Prepares a chase of a graph under keys, over those of the candidate pairs that some key pairs to the depth of the filter. `threads` says how
+/// many threads may find and filter the pairs, the caller's among them. The answer is the same.
 ///
 /// `TooManyPairs` comes exactly where there are more candidate pairs than `limit`, and `NoMemory` where memory ran out.
 pub fn prepare_graph<R: Threads + Sync>(
@@ -111,14 +73,13 @@ pub fn prepare_graph<R: Threads + Sync>(
     requires few { length patterns.items < 2 ^ 32 }
     ensures graph { IfOk result (λ p. p.setup.task.graph ≡ graph) }
     ensures patterns { IfOk result (λ p. p.setup.task.patterns ≡ patterns.items) }
-    ensures pairs { IfOk result (λ p. (a b : ℕ) → Contains p.setup.task.pairs (a, b) ↔ (IsCandidate graph patterns.items a b × ArePairedBy graph patterns.items 2 a b)) }
+    ensures pairs { IfOk result (λ p. (a b : ℕ) → Contains p.setup.task.pairs (a, b) ↔ (IsCandidate graph patterns.items a b × ArePairedBy graph patterns.items filter_depth a b)) }
     ensures seeded { IfOk result (λ p. IsCandidateCount graph patterns.items p.seeded) }
     ensures no_more { OnOk result (¬ (HasMoreCandidates graph patterns.items limit)) }
     ensures stop { IfErr result (IsRightStop graph patterns.items limit) }
 {
-    let (found, near) = candidates_and_near(rt, alloc, threads, &graph, &patterns, limit)?;
-    let Candidates { kept, seeded } = found;
-    let setup = Setup::with_near(alloc, graph, patterns, kept.pairs, kept.keys, near)?;
+    let Candidates { kept, seeded } = kept_candidates(rt, alloc, threads, &graph, &patterns, limit)?;
+    let setup = Setup::with_keys(alloc, graph, patterns, kept.pairs, kept.keys)?;
     Ok(Prepared { setup, seeded })
 }
 
@@ -149,7 +110,7 @@ pub fn prepare<R: Threads + Sync>(
     ensures graph { IfOk result (λ p. HasPartsOf p.setup.task.graph (graph_of_parts rows.items literal.items rdf_type alike.items)) }
     ensures patterns { IfOk result (λ p. p.setup.task.patterns ≡ patterns.items) }
     ensures pairs { IfOk result (λ p. (a b : ℕ) → Contains p.setup.task.pairs (a, b) ↔
-        (IsCandidate p.setup.task.graph patterns.items a b × ArePairedBy p.setup.task.graph patterns.items 2 a b)) }
+        (IsCandidate p.setup.task.graph patterns.items a b × ArePairedBy p.setup.task.graph patterns.items filter_depth a b)) }
     ensures seeded { IfOk result (λ p. IsCandidateCount p.setup.task.graph patterns.items p.seeded) }
     ensures no_more { OnOk result (¬ (HasMoreCandidates (graph_of_parts rows.items literal.items rdf_type alike.items) patterns.items limit)) }
     ensures stop { IfErr result (IsRightStop (graph_of_parts rows.items literal.items rdf_type alike.items) patterns.items limit) }

@@ -10,7 +10,7 @@ use Rattle.chase_laws.specs.Near.{IsNear}
 use Rattle.chase_laws.proofs.CallerLemmas.{near_entity}
 use Rattle.list_pool.specs.Pool.{list_at}
 use Rattle.near_lists.specs.Owners.{owners_of}
-use Rattle.near_lists.specs.Neighbourhoods.{AreNearFrom, AreNearNames, AreNeighbourhoods}
+use Rattle.near_lists.specs.Neighbourhoods.{AreNearOfFirst, AreNearNames, AreNeighbourhoods}
 use Rattle.near_lists.proofs.Owners.{owners_rise, Contains_all_owners}
 
 -- the numbers of a row are names
@@ -44,13 +44,11 @@ all_listed lists P each = All-from_get_or (λ (xs : List ℕ). All P xs) lists [
 pub near_named : (G : NumberedGraph) (K : List Shape) (near : List (List ℕ)) → IsGraph G → ((e : ℕ) → e < length near → (n : ℕ) → Contains (list_at near e) n ↔ IsNear G K e n) → All (λ xs. All (λ n. n < length G.literal) xs) near
 near_named G K near named exact = all_listed near (λ n. n < length G.literal) (λ e n c. near_is_named G K e n named ((exact e (listed near e n c) n).0 c))
 
--- the lists of all names are those from the first one on
-pub all_names : (G : NumberedGraph) (K : List Shape) (near : List (List ℕ)) → length near ≡ length G.literal → AreNearFrom G K 0 near → AreNearNames G K near
+-- the lists of all names are those of the first so many
+pub all_names : (G : NumberedGraph) (K : List Shape) (near : List (List ℕ)) → length near ≡ length G.literal → AreNearOfFirst G K near → AreNearNames G K near
 all_names G K near one_each exact = record {
   one_each = one_each;
-  exact = λ e n h.
-      let same : 0 + e ≡ e = omega arith in
-      subst (λ m. Contains (list_at near e) n ↔ IsNear G K m n) same (exact e n (omega (arith, h, one_each)));
+  exact = λ e n h. exact e n (omega (arith, h, one_each));
 }
 
 -- near lists and their owners

@@ -1,10 +1,10 @@
 //! The entities that walks by all keys reach from each name.
 
-ghost use Rattle.std.specs.Prelude.{◌≡◌, ◌≤◌, ◌+◌, ◌↔◌, ℕ, All, Contains, IfOk, OnOk, length};
+ghost use Rattle.std.specs.Prelude.{◌≡◌, ◌↔◌, ℕ, All, Contains, IfOk, OnOk, length};
 ghost use Rattle.std.specs.List.Sorted.{IsStrictlyIncreasing};
 ghost use Rattle.chase_laws.specs.Near.{IsNear};
 ghost use Rattle.near_lists.specs.Legs.{AreLegs, AreTours};
-ghost use Rattle.near_lists.specs.Neighbourhoods.{AreNearFrom};
+ghost use Rattle.near_lists.specs.Neighbourhoods.{AreNearOfFirst};
 
 use crate::legs::{Leg, legs_of};
 use crate::rows::Rows;
@@ -79,25 +79,23 @@ fn find(
     Ok(())
 }
 
-/// The entities near to each of the names from one up to another, ascending.
+/// The entities near to each of the first so many names, ascending.
 pub(crate) fn rows_along(
     alloc: Global,
     graph: &Graph,
     patterns: &[Pattern],
     tours: &[Tour],
-    from: u32,
-    to: u32,
+    names: u32,
 ) -> Result<Rows, NoMemory>
-    requires run { from ≤ to }
     requires tours { AreTours patterns.now tours.now }
-    ensures one_each { IfOk result (λ r. from + length r ≡ to) }
+    ensures one_each { IfOk result (λ r. length r ≡ names) }
     ensures ascending { IfOk result (All IsStrictlyIncreasing) }
-    ensures exact { IfOk result (AreNearFrom graph.now patterns.now from) }
+    ensures exact { IfOk result (AreNearOfFirst graph.now patterns.now) }
 {
     let mut walk = Walk::new(alloc)?;
     let mut entities = Vec::new(alloc);
     let mut near = Rows::new(alloc)?;
-    for e in from..to {
+    for e in 0..names {
         find(graph, patterns, tours, e, &mut walk, &mut entities)?;
         near.push(&entities)?;
     }

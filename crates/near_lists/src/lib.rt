@@ -10,8 +10,7 @@
 //! - `pairs`: for each number the pairs that have it
 //! - `legs`: the legs of walks along a pattern
 //! - `walk`: walks along the legs
-//! - `entities`: the entities that walks reach from each name of a run
-//! - `runs`: the same by threads, the names cut into runs
+//! - `entities`: the entities that walks reach from each name
 #![tactic(auto)]
 
 mod entities;
@@ -20,7 +19,6 @@ mod legs;
 mod near;
 mod pairs;
 mod rows;
-mod runs;
 mod turn;
 mod walk;
 

@@ -3,18 +3,16 @@
 ghost use Rattle.std.specs.Prelude.{◌≡◌, ◌<◌, ◌↔◌, ℕ, All, Contains, IfOk, length};
 ghost use Rattle.std.specs.List.Sorted.{IsStrictlyIncreasing};
 ghost use Rattle.list_pool.specs.Pool.{list_at};
-ghost use Rattle.near_lists.specs.Neighbourhoods.{AreNearFrom, AreNearNames, HasImages};
+ghost use Rattle.near_lists.specs.Neighbourhoods.{AreNearNames, HasImages};
 
 use crate::entities::{rows_along, tours};
 use crate::rows::Rows;
-use crate::runs::rows_in_threads;
 use crate::turn::turned;
 use chase_laws::laws::{law_local, law_pattern};
 use chase_laws::{Pattern, all_valid};
 use gk_base::NoMemory;
 use std::alloc::Global;
 use std::marker::Model;
-use std::thread::Threads;
 use typed_graph::Graph;
 
 /// For each name the entities near to it, and the names that it is near to. An entity n is near to e where some key can
@@ -44,48 +42,14 @@ impl Near {
         ensures names { IfOk result (λ n. AreNearNames graph.now patterns.now n.near) }
         ensures images { IfOk result (λ n. HasImages graph.now patterns.now n.near) }
     {
-        let tours = tours(alloc, patterns)?;
-        let near = rows_along(alloc, graph, patterns, &tours, 0, graph.names())?;
-        Near::of_rows(alloc, graph, patterns, near)
-    }
-
-    /// The same. `threads` says how many threads may work on it, the caller's among them: the names are cut into at most as many
-    /// runs, none of them so short that a thread costs more than it saves, and each thread has a walk of its own. The answer is
-    /// the same whatever the number of threads.
-    pub fn build_in_threads<R: Threads + Sync>(
-        rt: &R,
-        alloc: Global,
-        threads: u32,
-        graph: &Graph,
-        patterns: &[Pattern],
-    ) -> Result<Near, NoMemory>
-        ensures names { IfOk result (λ n. AreNearNames graph.now patterns.now n.near) }
-        ensures images { IfOk result (λ n. HasImages graph.now patterns.now n.near) }
-    {
-        let tours = tours(alloc, patterns)?;
-        let names = graph.names();
-        let near = rows_in_threads(rt, alloc, threads, graph, patterns, &tours, 0, names)?;
-        Near::of_rows(alloc, graph, patterns, near)
-    }
-
-    /// Near lists and, turned round, their owners.
-    fn of_rows(
-        alloc: Global,
-        graph: &Graph,
-        patterns: &[Pattern],
-        near: Rows,
-    ) -> Result<Near, NoMemory>
-        requires one_each { length near ≡ length graph.now.literal }
-        requires ascending { All IsStrictlyIncreasing near }
-        requires exact { AreNearFrom graph.now patterns.now 0 near }
-        ensures names { IfOk result (λ n. AreNearNames graph.now patterns.now n.near) }
-        ensures images { IfOk result (λ n. HasImages graph.now patterns.now n.near) }
-    {
         // Facts for the proof: the images of a valuation are near to the first of them, which is that of an entity variable.
         law_local();
         law_pattern();
         all_valid(patterns);
-        let owners = turned(alloc, &near, graph.names())?;
+        let names = graph.names();
+        let tours = tours(alloc, patterns)?;
+        let near = rows_along(alloc, graph, patterns, &tours, names)?;
+        let owners = turned(alloc, &near, names)?;
         Ok(Near { near, owners })
     }
 

@@ -91,15 +91,4 @@ impl Rows {
         self.starts.push_reserved(end);
         Ok(())
     }
-    /// Adds the lists of another at the end.
-    pub(crate) fn append(&mut self, other: &Rows) -> Result<(), NoMemory>
-        ensures { OnOk result (self.new ≡ self.old ++ other.now) }
-    {
-        self.starts.reserve(other.len())?;
-        self.items.reserve(other.items.len())?;
-        for list in 0..other.len() {
-            self.push(other.of(list))?;
-        }
-        Ok(())
-    }
 }

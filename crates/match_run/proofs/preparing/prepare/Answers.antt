@@ -17,7 +17,7 @@ returns-clause-graph g c =
 
 pub returns-clause-pairs : goal.returns-clause-pairs
 returns-clause-pairs g c =
-    of_setup c.in_ok-graph.graph (λ G p. (a b : ℕ) → Contains p.setup.task.pairs (a, b) ↔ (IsCandidate G c.args.patterns.items a b × ArePairedBy G c.args.patterns.items 2 a b))
+    of_setup c.in_ok-graph.graph (λ G p. (a b : ℕ) → Contains p.setup.task.pairs (a, b) ↔ (IsCandidate G c.args.patterns.items a b × ArePairedBy G c.args.patterns.items filter_depth a b))
     c.prepare_graph.result c.prepare_graph.ensures.graph c.prepare_graph.ensures.pairs
 
 pub returns-clause-seeded : goal.returns-clause-seeded

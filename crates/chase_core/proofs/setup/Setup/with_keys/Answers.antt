@@ -1,7 +1,7 @@
 -- The parts are those of the task.
 use Rattle.std.proofs.Common.{subst, ◌<◌, ◌∙◌, ap, sym, min}
 use Rattle.chase_core.specs.Setup.{IsMost}
-use Rattle.chase_core.proofs.setup.Setup.with_near.Goals as goal
+use Rattle.chase_core.proofs.setup.Setup.with_keys.Goals as goal
 
 pub invariant_of-result : goal.invariant_of-result
 invariant_of-result c =
@@ -18,11 +18,11 @@ invariant_of-result c =
       few_patterns = c.requires.few_patterns;
       few_pairs = c.requires.few_pairs;
       plans = rw c.deref-2.ensures.value at c.in_ok-plans.ensures;
-      near = record { one_each = c.requires.near.one_each; exact = c.requires.near.exact };
+      near = record { one_each = c.in_ok-near.ensures.names.one_each; exact = c.in_ok-near.ensures.names.exact };
       ranges = c.requires.keys;
       widest = record {
         most = c.most_near.result;
-        is_most = subst (λ ps. IsMost c.args.near.near ps c.most_near.result) c.deref-4.ensures.value c.most_near.ensures;
+        is_most = subst (λ ps. IsMost c.in_ok-near.near.near ps c.most_near.result) c.deref-4.ensures.value c.most_near.ensures;
         least = c.min-widest.ensures ∙ ap (min c.most_near.result) (c.from.ensures ∙ c.names-names.ensures.names);
       };
       by_end =
