@@ -128,18 +128,3 @@ never_again old new t view found (settled.Entered place) present s node seen now
 never_again old new t view found settled.Missed present s node seen now e = absurd (cc)
 never_again old new t view (outcome.Found f) (settled.Reopened n l m) present s node seen now e = absurd s
 never_again old new t view outcome.Missed (settled.Reopened n l m) present s node seen now e = let o = s.0.1 in o.3 (present o.0 o.1 o.2)
-
--- ---- whether a view has the present labels
-
--- where no label of a view was found that is not the present one, each is
-pub all_present : (first : Option (ℕ × ℕ × ℕ)) (labels : List ℕ) (view : List (ℕ × ℕ)) → is_some first ≡ false → IfNone first ((k n l : ℕ) → slice_get view k ≡ Some (n, l) → l ≡ slice_index labels n) →
-    (n l : ℕ) → label_in view n ≡ Some l → l ≡ slice_index labels n
-all_present (Some f) labels view e each n l at = absurd (cc)
-all_present None labels view e each n l at = let r = label_at view n l at in each r.0 n l r.1
-
--- where a view's names ascend and each label is the present one, none was found that is not
-pub none_overtaken : (first : Option (ℕ × ℕ × ℕ)) (told : Bool) (labels : List ℕ) (view : List (ℕ × ℕ)) → Ascends view → is_some first ≡ not told → IfSome first (λ r. IsFirstOvertaken labels view r.0 r.1 r.2) →
-    ((n l : ℕ) → label_in view n ≡ Some l → l ≡ slice_index labels n) → told ≡ true
-none_overtaken None true labels view up e found each = refl
-none_overtaken None false labels view up e found each = absurd (cc)
-none_overtaken (Some f) told labels view up e found each = absurd (found.differs (each f.0 f.1 (label_of view found.place f.0 f.1 up found.stands) ∙ sym found.present))

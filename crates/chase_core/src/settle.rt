@@ -1,32 +1,28 @@
 //! Settles a pair that was searched: enters what was found, and keeps that nothing was found while that is still known.
 
-ghost use Rattle.std.specs.Prelude.{◌≡◌, ◌<◌, ◌≤◌, ◌↔◌, ◌⊎◌, [], List, ℕ, IfSome, IfNone, IsFalse, IsTrue, Some, length, slice_get, slice_index, take, vec_capacity};
+ghost use Rattle.std.specs.Prelude.{◌≡◌, ◌<◌, ◌≤◌, [], List, ℕ, IfSome, IfNone, Some, length, slice_get, slice_index, take, vec_capacity};
 ghost use Rattle.chase_laws.specs.declared.pair_state.PairState.TheVariants as state;
 ghost use Rattle.chase_laws.specs.Joined.{Joined};
 ghost use Rattle.chase_laws.specs.Chase.{IsStep};
-ghost use Rattle.chase_laws.specs.View.{label_in};
 ghost use Rattle.chase_laws.specs.Core.{IsSound, name_count, PairAt, ListsNear, IsPresent, Happens};
-ghost use Rattle.chase_laws.specs.Core.Event.{Enter, Already, Miss};
+ghost use Rattle.chase_laws.specs.Core.Event.{Enter};
 ghost use Rattle.paired_search.specs.Held.{Ascends};
 ghost use Rattle.list_pool.specs.Pool.{without};
-ghost use Rattle.chase_core.specs.declared.ticket.Outcome.{Outcome};
 ghost use Rattle.chase_core.specs.declared.ticket.Outcome.TheVariants.{Missed};
-ghost use Rattle.chase_core.specs.declared.ticket.Settled.TheVariants as settled;
 ghost use Rattle.chase_core.specs.Running.{state_of, running_with, journal_room};
 ghost use Rattle.chase_core.specs.Settling.{entry_of, IsRightOutcome, IsFirstOvertaken, RiseInOrder, Settles, Notes};
 ghost use Rattle.chase_core.specs.Inner.{SettlesMissed};
-ghost use Rattle.chase_core.specs.Present.{SettlesPresent, IsUnmatchedBy, CoversLabels};
+ghost use Rattle.chase_core.specs.Present.{SettlesPresent};
 
 use crate::gather::gather_across;
 use crate::table::PairTable;
-use crate::take::ticket_of;
 use crate::tried::find_present;
 use crate::wake::wake_each;
 use crate::{Outcome, Settled, Setup, Ticket, Woken};
 use chase_laws::core_law::law_core;
 use chase_laws::{Entry, PairState};
 use class_book::Book;
-use paired_search::{Finding, Sameness, View};
+use paired_search::{Finding, View};
 
 /// The first name of a pair's view whose label is not the present one, with the label in the view and the present one.
 fn overtaken(setup: &Setup, book: &Book, ticket: Ticket, view: &View) -> Option<(u32, u32, u32)>
@@ -47,15 +43,6 @@ fn overtaken(setup: &Setup, book: &Book, ticket: Ticket, view: &View) -> Option<
         }
     }
     None
-}
-
-/// Whether a pair's view has the present labels.
-pub fn is_present(setup: &Setup, book: &Book, ticket: Ticket, view: &View) -> bool
-    requires labels { length book.now.labels ≡ name_count setup.now.task }
-    requires view { ListsNear setup.now.task ticket.a ticket.b view.now.pairs }
-    ensures { IsTrue result ↔ ((n l : ℕ) → label_in view.now.pairs n ≡ Some l → l ≡ slice_index book.now.labels n) }
-{
-    overtaken(setup, book, ticket, view).is_none()
 }
 
 /// The identification of a pair by what was found.
@@ -177,28 +164,6 @@ fn settle_unless_missed(
     }
 }
 
-/// Settles a pair whose ends are joined by now, and answers whether they are. Where they are not, all stays as it was. It takes a
-/// chase's fields as `settle_missed_parts` does.
-pub fn settle_joined_parts(
-    setup: &Setup,
-    book: &Book,
-    table: &mut PairTable,
-    ticket: Ticket,
-) -> bool
-    requires sound { IsSound setup.now.task (state_of book.now table.old) }
-    requires ends { PairAt setup.now.task ticket.pair ticket.a ticket.b }
-    ensures settles { IsTrue result → (view : List (ℕ × ℕ)) (found : Outcome) → Settles (running_with setup.now book.now table.old) ticket view found settled.Already (running_with setup.now book.now table.new) }
-    ensures joined { IsTrue result ↔ Joined book.now.journal ticket.a ticket.b }
-    ensures unchanged { IsFalse result → table.new ≡ table.old }
-{
-    setup.prepared();
-    if !book.same(ticket.a, ticket.b) {
-        return false;
-    }
-    table.mark(ticket.pair, PairState::Joined);
-    true
-}
-
 /// Settles a pair that was searched. It takes a chase's fields and not the chase: the pair's mark, the entry and the pairs
 /// that it wakes are one event, and within it what every chase keeps does not hold.
 pub fn settle_parts(
@@ -297,31 +262,4 @@ pub fn settle_present(
             Settled::Missed
         }
     }
-}
-
-/// Settles a pair for which a search found nothing by what may be the same, where that is all that is the same by the present
-/// labels, or more.
-pub fn settle_unmatched_parts<S: Sameness>(
-    setup: &Setup,
-    book: &Book,
-    table: &mut PairTable,
-    pair: u32,
-    may_be: &S,
-)
-    requires sound { IsSound setup.now.task (state_of book.now table.old) }
-    requires unmatched { IsUnmatchedBy setup.now.task (S.are_same may_be.now) pair }
-    requires covers { CoversLabels book.now.labels (S.are_same may_be.now) }
-    ensures event { Happens setup.now.task (state_of book.now table.old) (Already pair) (state_of book.now table.new)
-        ⊎ ((view : List (ℕ × ℕ)) × Happens setup.now.task (state_of book.now table.old) (Miss pair view) (state_of book.now table.new)) }
-    ensures ready { table.new.ready ≡ without table.old.ready pair }
-{
-    setup.prepared();
-    // What may be the same is only named in the contract.
-    let _ = may_be;
-    let ticket = ticket_of(setup, pair);
-    if book.same(ticket.a, ticket.b) {
-        table.mark(pair, PairState::Joined);
-        return;
-    }
-    table.mark(pair, PairState::Missed);
 }
