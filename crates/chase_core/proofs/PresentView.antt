@@ -12,13 +12,13 @@ use Rattle.chase_laws.specs.Graph.{NumberedGraph}
 use Rattle.chase_laws.specs.Valuation.{AgreeAt, Matches}
 use Rattle.chase_laws.specs.View.{label_in, both_equal, same_by}
 use Rattle.chase_laws.specs.Joined.{links, LabelsJoin, Joined}
-use Rattle.chase_laws.specs.Core.{IsTask, State, PairAt, ListsNear, IsPresent, Happens, name_count}
-use Rattle.chase_laws.specs.Core.Event.{Enter}
+use Rattle.chase_laws.specs.Core.{IsTask, State, PairAt, ListsNear, IsPresent, name_count}
 use Rattle.chase_laws.proofs.CallerLemmas.{near_named, joined_refl}
 use Rattle.list_pool.specs.Pool.{list_at, without}
 use Rattle.class_book.specs.Classes.{Classes}
 use Rattle.chase_core.specs.declared.ticket.Ticket.{Ticket}
 use Rattle.chase_core.specs.declared.ticket.Outcome.TheVariants as outcome
+use Rattle.chase_core.specs.declared.ticket.Settled.{Settled}
 use Rattle.chase_core.specs.declared.ticket.Settled.TheVariants as settled
 use Rattle.near_lists.specs.Neighbourhoods.{AreNearNames}
 use Rattle.chase_core.specs.Setup.{Preparation}
@@ -26,7 +26,7 @@ use Rattle.chase_core.specs.Table.{Standings}
 use Rattle.chase_core.specs.Running.{state_of, running_with}
 use Rattle.chase_core.specs.Present.{same_by_labels, SettlesPresent}
 use Rattle.paired_search.specs.declared.all_keys.Finding.{Finding}
-use Rattle.chase_core.specs.Settling.{entry_of}
+use Rattle.chase_core.specs.Settling.{Settles}
 use Rattle.chase_core.proofs.Across.{ends_named}
 use Rattle.chase_core.proofs.Members.{Contains-head, Contains-tail, Contains-cons_cases, Contains-nil}
 
@@ -189,12 +189,12 @@ module _ (S : Preparation) (ok : IsTask S.task) (near : AreNearNames S.task.grap
     );
   }
 
-  pub entered_present : (f : Finding) (place : ℕ) → Happens S.task (state_of book old) (Enter t.pair (entry_of t f)) (state_of new_book new) → place ≡ length book.journal →
-      SettlesPresent (running_with S book old) t (settled.Entered place) (running_with S new_book new)
-  entered_present f place event is = record {
+  pub found_present : (f : Finding) (answer : Settled) → ((shown : List (ℕ × ℕ)) → Settles (running_with S book old) t shown (outcome.Found f) answer (running_with S new_book new)) →
+      SettlesPresent (running_with S book old) t answer (running_with S new_book new)
+  found_present f answer settles = record {
     view = view S ok near (state_of book old) count t ends;
     near = lists_near S ok near (state_of book old) count t ends;
     present = is_present S ok near (state_of book old) count t ends;
     found = outcome.Found f;
-    settles = (event, is);
+    settles = settles (view S ok near (state_of book old) count t ends);
   }

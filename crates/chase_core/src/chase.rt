@@ -17,9 +17,10 @@ ghost use Rattle.chase_core.specs.Settling.{IsRightOutcome, RiseInOrder, Settles
 ghost use Rattle.chase_core.specs.Present.{SettlesPresent};
 
 use crate::recall::recall_parts;
-use crate::settle::{settle_missed_parts, settle_parts, settle_present};
+use crate::settle::{settle_compared, settle_found, settle_missed, settle_present};
+use crate::show::show_near;
 use crate::table::PairTable;
-use crate::take::{take_parts, take_unseen_parts};
+use crate::take::take_parts;
 use crate::{Matched, Outcome, Settled, Setup, Ticket, Woken};
 use chase_laws::PairState;
 use chase_laws::core_law::law_core;
@@ -125,7 +126,9 @@ impl<'a> Chase<'a> {
         ensures book { self.new.book ≡ self.old.book }
     {
         law_core();
-        take_parts(self.setup, &self.book, &mut self.table, hint, view)
+        let ticket = self.take_unseen(hint)?;
+        show_near(self.setup, &self.book, ticket, view);
+        Some(ticket)
     }
 
     /// Settles a pair by what a search with its view came to. What was found has to be a step from the present journal,
@@ -148,16 +151,20 @@ impl<'a> Chase<'a> {
         ensures grows { (more : List Entry) × (self.new.book.journal ≡ self.old.book.journal ++ more) }
     {
         law_core();
-        settle_parts(
-            self.setup,
-            &mut self.book,
-            &mut self.table,
-            &mut self.aside,
-            ticket,
-            view,
-            outcome,
-            woken,
-        )
+        match outcome {
+            Outcome::Missed => {
+                settle_compared(self.setup, &self.book, &mut self.table, ticket, view, woken)
+            }
+            Outcome::Found(finding) => settle_found(
+                self.setup,
+                &mut self.book,
+                &mut self.table,
+                &mut self.aside,
+                ticket,
+                finding,
+                woken,
+            ),
+        }
     }
 
     /// Settles a pair of which a search found nothing, by one who knows that the view has the present labels: nothing is
@@ -177,7 +184,7 @@ impl<'a> Chase<'a> {
         ensures never_again { (node seen now : ℕ) → result ≢ Reopened node seen now }
     {
         law_core();
-        settle_missed_parts(self.setup, &self.book, &mut self.table, ticket, view, woken)
+        settle_missed(self.setup, &self.book, &mut self.table, ticket, view, woken)
     }
 
     /// Gives all pairs back that are handed out: each Flying pair becomes Ready, in ascending order at the end of the
@@ -205,12 +212,13 @@ impl<'a> Chase<'a> {
         ensures woken_room { woken.new.room ≡ woken.old.room }
     {
         law_core();
-        self.holds();
+        // What holds of every chase.
+        let _ = self.book();
         while let Some(ticket) = self.take_unseen(None) {
             self.settle_at_once(ticket, woken);
-            self.holds();
+            let _ = self.book();
         }
-        self.holds();
+        let _ = self.book();
     }
 
     /// Hands out the pair that `take` does, and shows nothing: for one who has the chase alone, and searches by the present
@@ -225,7 +233,7 @@ impl<'a> Chase<'a> {
         ensures book { self.new.book ≡ self.old.book }
     {
         law_core();
-        take_unseen_parts(self.setup, &self.book, &mut self.table, hint)
+        take_parts(self.setup, &self.book, &mut self.table, hint)
     }
 
     /// Searches for a pair whose ends are not joined by the present labels, and settles it.
@@ -259,13 +267,5 @@ impl<'a> Chase<'a> {
         table.listed();
         let (labels, journal) = book.into_parts();
         Matched { labels, journal }
-    }
-
-    /// Says for proofs what holds of every chase. It does nothing.
-    fn holds(&self)
-        ensures running { IsRunning self.now }
-    {
-        self.table.listed();
-        let _ = &self.book;
     }
 }

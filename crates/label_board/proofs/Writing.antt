@@ -13,9 +13,6 @@ pub record WritesMembers (before labels members : List ℕ) (done : ℕ) (after 
   pub written : (n : ℕ) → Contains (take done members) n → get_or after n 0 ≡ get_or labels n 0
   pub others : (n : ℕ) → ¬ (Contains (take done members) n) → get_or after n 0 ≡ get_or before n 0
 
-pub none_written : (before labels members : List ℕ) → WritesMembers before labels members 0 before
-none_written before labels members = record { wide = refl; written = λ n h. absurd (omega (arith, h.1)); others = λ n h. refl }
-
 module _ (before labels members : List ℕ) (done member : ℕ) (after : List ℕ) (w : WritesMembers before labels members done after)
     (within : done < length members) (here : get_or members done 0 ≡ member) (inside : member < length after) where
   more : take (done + 1) members ≡ take done members ++ member ∷ []

@@ -10,7 +10,7 @@ pub loop-ticket-init : goal.loop-ticket-init
 loop-ticket-init c = record {
   setup = refl;
   woken_room = refl;
-  running = c.holds.ensures.running;
+  running = c.book.ensures.running;
   landed = c.requires.landed;
   run = ([], refl);
   grows = ([], sym (append-nil c.args.self.now.book.journal));
@@ -27,7 +27,7 @@ loop-ticket-smaller c =
     let e = c.in-Some.ensures in
     let s = c.settle_at_once.ensures.settles in
     less law c.loop-ticket.self c.take_unseen.new.self c.in-Some.ticket c.loop-ticket.invariant.running e.setup e.book e.takes c.settle_at_once.new.self s.view s.found c.settle_at_once.result
-    c.settle_at_once.ensures.setup c.holds-in-Some.ensures.running s.present s.settles
+    c.settle_at_once.ensures.setup c.book-in-Some.ensures.running s.present s.settles
 
 pub loop-ticket-preserved : goal.loop-ticket-preserved
 loop-ticket-preserved c =
@@ -44,7 +44,7 @@ loop-ticket-preserved c =
     record {
       setup = c.settle_at_once.ensures.setup ∙ e.setup ∙ v.setup;
       woken_room = c.settle_at_once.ensures.woken_room ∙ v.woken_room;
-      running = c.holds-in-Some.ensures.running;
+      running = c.book-in-Some.ensures.running;
       landed = landed law old mid t v.running e.setup e.book e.takes new s.view s.found answer v.landed s.settles;
       run = subst (λ (S : Preparation). (events : List Event) × Run S.task (state_in c.args.self.now) events (state_in new)) v.setup
           (two_more law old mid t v.running e.setup e.book e.takes new s.view s.found answer s.settles (state_in c.args.self.now)
@@ -53,11 +53,11 @@ loop-ticket-preserved c =
     }
 
 pub returns-clause-finished : goal.returns-clause-finished
-returns-clause-finished c = finished c.loop-ticket.self c.take_unseen.new.self c.holds-2.ensures.running c.loop-ticket.invariant.landed c.in_default.ensures.takes
+returns-clause-finished c = finished c.loop-ticket.self c.take_unseen.new.self c.book-2.ensures.running c.loop-ticket.invariant.landed c.in_default.ensures.takes
 
 pub returns-clause-run : goal.returns-clause-run
 returns-clause-run c =
     let v = c.loop-ticket.invariant in
     subst (λ (S : Preparation). (events : List Event) × Run S.task (state_in c.args.self.now) events (state_in c.take_unseen.new.self)) v.setup
-    (one_more c.loop-ticket.self c.take_unseen.new.self c.holds-2.ensures.running v.landed c.in_default.ensures.takes (state_in c.args.self.now)
+    (one_more c.loop-ticket.self c.take_unseen.new.self c.book-2.ensures.running v.landed c.in_default.ensures.takes (state_in c.args.self.now)
     (subst (λ (S : Preparation). (events : List Event) × Run S.task (state_in c.args.self.now) events (state_in c.loop-ticket.self)) (sym v.setup) v.run))
