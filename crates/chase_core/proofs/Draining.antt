@@ -1,5 +1,5 @@
 -- A pair taken, searched and settled, over and over.
-use Rattle.std.proofs.Common.{List, [], ◌∷◌, ◌++◌, ℕ, Option, Some, None, Contains, slice_get, slice_set, get_or, length, ◌≡◌, ◌≢◌, ◌<◌, ◌≤◌, ◌+◌, ◌*◌, ◌-◌, ◌⊎◌, inl, inr, refl, sym, ◌∙◌, ap, subst, arith, append-nil, length-append, length-set, not, ◌==◌, eqb-true}
+use Rattle.std.proofs.Common.{List, [], ◌∷◌, ◌++◌, ℕ, Option, Some, None, Contains, slice_get, slice_set, get_or, length, ◌≡◌, ◌≢◌, ◌<◌, ◌≤◌, ◌+◌, ◌*◌, ◌-◌, ◌⊎◌, inl, inr, refl, sym, ◌∙◌, ap, subst, arith, length-append, length-set, not, ◌==◌, eqb-true}
 use Rattle.std.specs.Prelude.{IfSome, MatchOption}
 use Rattle.std.proofs.lemmas.Bool.{cases_eq}
 use Rattle.std.proofs.lemmas.Bool.Decides.{Decides-eqb}
@@ -7,7 +7,6 @@ use Rattle.std.proofs.lemmas.Option.{slice_get_within, slice_get-get_or, same_So
 use Rattle.std.proofs.lemmas.Map.Made.{IsDistinct-from_AllPairs}
 use Rattle.std.proofs.lemmas.Map.Steps.{length-le_from_distinct_below}
 use Rattle.std.proofs.lemmas.Map.Views.{Contains-from_any}
-use Rattle.chase_laws.specs.declared.entry.Entry.{Entry}
 use Rattle.chase_laws.specs.declared.pair_state.PairState.{PairState}
 use Rattle.chase_laws.specs.declared.pair_state.PairState.TheVariants as state
 use Rattle.chase_laws.specs.Joined.{Joined}
@@ -134,17 +133,6 @@ module _ (law : CoreLaw) (old mid : Running) (t : Ticket) (running : IsRunning o
   landed new view outcome.Missed settled.Missed h s = written new state.Missed h (λ e. cc) (ap (λ (S : State). S.pairs) s.0.7)
   landed new view (outcome.Found f) (settled.Reopened node seen now) h s = absurd s
   landed new view outcome.Missed (settled.Reopened node seen now) h s = written new state.Ready h (λ e. cc) (ap (λ (S : State). S.pairs) s.0.2)
-
-  -- the journal goes on
-  pub goes_on : (new : Running) (view : List (ℕ × ℕ)) (found : Outcome) (answer : Settled) → Settles mid t view found answer new → (more : List Entry) × (new.book.journal ≡ old.book.journal ++ more)
-  goes_on new view (outcome.Found f) settled.Already s = ([], ap (λ (B : Classes). B.journal) (s.1 ∙ book) ∙ sym (append-nil old.book.journal))
-  goes_on new view outcome.Missed settled.Already s = ([], ap (λ (B : Classes). B.journal) (s.1 ∙ book) ∙ sym (append-nil old.book.journal))
-  goes_on new view (outcome.Found f) (settled.Entered place) s = (entry_of t f ∷ [], s.0.3.journal ∙ ap (λ (B : Classes). B.journal ++ entry_of t f ∷ []) book)
-  goes_on new view outcome.Missed (settled.Entered place) s = absurd s
-  goes_on new view (outcome.Found f) settled.Missed s = absurd s
-  goes_on new view outcome.Missed settled.Missed s = ([], ap (λ (B : Classes). B.journal) (s.1 ∙ book) ∙ sym (append-nil old.book.journal))
-  goes_on new view (outcome.Found f) (settled.Reopened node seen now) s = absurd s
-  goes_on new view outcome.Missed (settled.Reopened node seen now) s = ([], ap (λ (B : Classes). B.journal) (s.2 ∙ book) ∙ sym (append-nil old.book.journal))
 
   shorter : (new : Running) → new.setup ≡ mid.setup → new.book ≡ mid.book → length new.table.ready ≤ length mid.table.ready → left_to_do new < left_to_do old
   shorter new same_setup same_book le = rw (same_setup ∙ setup, same_book ∙ book) (omega (arith, fewer))

@@ -1,5 +1,5 @@
 -- The labels of a class, written member by member.
-use Rattle.std.proofs.Common.{List, [], ◌∷◌, ◌++◌, ℕ, Contains, take, get_or, set, length, ◌≡◌, ◌≢◌, ◌<◌, ◌+◌, inl, inr, ◌∙◌, refl, sym, ap, subst, arith, length-set, get_or-set_same, get_or-set_other}
+use Rattle.std.proofs.Common.{List, [], ◌∷◌, ◌++◌, ℕ, Contains, take, get_or, set, length, ◌≡◌, ◌≢◌, ◌<◌, ◌+◌, inl, inr, ◌∙◌, sym, ap, subst, arith, length-set, get_or-set_same, get_or-set_other}
 use Rattle.std.proofs.lemmas.List.{take_all, take_more}
 use Rattle.std.proofs.lemmas.List.Elements.{Contains-push, Contains-push_cases, Contains-append_left, All-get_or}
 use mathlib.Core.Logic.{dite}

@@ -1,9 +1,10 @@
 -- Each turn is two events, and leaves less to do.
 use Rattle.std.proofs.Common.{List, ◌++◌, [], sym, ◌∙◌, ap, refl, subst, append-nil, append_assoc}
 use Rattle.chase_laws.specs.Core.{Event, Run, PairAt}
+use Rattle.class_book.specs.Classes.{Classes}
 use Rattle.chase_core.specs.Setup.{Preparation}
 use Rattle.chase_core.specs.Running.{state_in}
-use Rattle.chase_core.proofs.Draining.{CoreLaw, landed, goes_on, less, two_more, finished, one_more}
+use Rattle.chase_core.proofs.Draining.{CoreLaw, landed, less, two_more, finished, one_more}
 use Rattle.chase_core.proofs.chase.Chase.drain.Goals as goal
 
 pub loop-ticket-init : goal.loop-ticket-init
@@ -40,7 +41,7 @@ loop-ticket-preserved c =
     let s = c.settle_at_once.ensures.settles in
     let answer = c.settle_at_once.result in
     let t = c.in-Some.ticket in
-    let more = goes_on law old mid t v.running e.setup e.book e.takes new s.view s.found answer s.settles in
+    let more = c.settle_at_once.ensures.grows in
     record {
       setup = c.settle_at_once.ensures.setup ∙ e.setup ∙ v.setup;
       woken_room = c.settle_at_once.ensures.woken_room ∙ v.woken_room;
@@ -49,7 +50,7 @@ loop-ticket-preserved c =
       run = subst (λ (S : Preparation). (events : List Event) × Run S.task (state_in c.args.self.now) events (state_in new)) v.setup
           (two_more law old mid t v.running e.setup e.book e.takes new s.view s.found answer s.settles (state_in c.args.self.now)
           (subst (λ (S : Preparation). (events : List Event) × Run S.task (state_in c.args.self.now) events (state_in old)) (sym v.setup) v.run));
-      grows = (v.grows.0 ++ more.0, more.1 ∙ ap (λ xs. xs ++ more.0) v.grows.1 ∙ append_assoc c.args.self.now.book.journal v.grows.0 more.0);
+      grows = (v.grows.0 ++ more.0, more.1 ∙ ap (λ (B : Classes). B.journal ++ more.0) e.book ∙ ap (λ xs. xs ++ more.0) v.grows.1 ∙ append_assoc c.args.self.now.book.journal v.grows.0 more.0);
     }
 
 pub returns-clause-finished : goal.returns-clause-finished
