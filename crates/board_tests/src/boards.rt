@@ -247,41 +247,14 @@ fn count_stale(book: &Book, names: u32, view: &View) -> u32
     stale
 }
 
-/// One thread looks how many entries seem to be posted, and another fills a view of all names meanwhile.
-fn look_and_fill<R: Threads>(
-    rt: &R,
-    board: &Board,
-    watcher: &mut Watcher,
-    names: &[u32],
-    view: &mut View,
-) -> u64
-    requires watcher { watcher.old.board ≡ board.now.id }
-    requires names { IsStrictlyIncreasing names.now × All (λ n. n < board.now.names) names.now }
-    requires room { length names.now ≤ view.old.room }
-    ensures board { watcher.new.board ≡ board.now.id }
-    ensures since { watcher.new.since ≡ watcher.old.since }
-    ensures read { watcher.new.read ≡ view.new.pairs }
-    ensures room { view.new.room ≡ view.old.room }
-{
-    let mut posted = 0;
-    thread::join_mut(
-        rt,
-        &mut || posted = board.posted_count(),
-        &mut || board.fill(watcher, names, &[], view),
-    );
-    posted
-}
-
-/// A watcher stands even again, fills a view in a second thread, and meets the scribe: it has read what is shown. It answers
-/// how many entries seem to be posted.
-fn read_afresh<R: Threads>(
-    rt: &R,
+/// A watcher stands even again, fills a view of all names, and meets the scribe: it has read what is shown.
+fn read_afresh(
     board: &Board,
     scribe: &mut Scribe,
     watcher: &mut Watcher,
     names: &[u32],
     view: &mut View,
-) -> u64
+)
     requires scribe { scribe.old.board ≡ board.now.id }
     requires watcher { watcher.old.board ≡ board.now.id }
     requires names { IsStrictlyIncreasing names.now × All (λ n. n < board.now.names) names.now }
@@ -292,15 +265,14 @@ fn read_afresh<R: Threads>(
     ensures room { view.new.room ≡ view.old.room }
 {
     board.renew(scribe, watcher);
-    let posted = look_and_fill(rt, board, watcher, names, view);
+    board.fill(watcher, names, &[], view);
     board.meet(watcher, scribe);
-    posted
 }
 
 /// Joins 0 with 1, 1 with 2, and so on, and posts each entry. After a post the view that was filled before has an old label,
 /// and one that is read afresh has the book's.
-fn post_and_read<R: Threads + Abort>(
-    rt: &R,
+fn post_and_read(
+    rt: &impl Abort,
     board: &Board,
     scribe: &mut Scribe,
     book: &mut Book,
@@ -318,36 +290,14 @@ fn post_and_read<R: Threads + Abort>(
     for name in 0..count {
         enter(rt, book, board, scribe, name, name + 1);
         assert_eq!(rt; count_stale(book, board.names(), view), 1);
-        let posted = read_afresh(rt, board, scribe, watcher, names, view);
-        assert_eq!(rt; posted, name as u64 + 1);
+        read_afresh(board, scribe, watcher, names, view);
         assert_eq!(rt; count_stale(book, board.names(), view), 0);
     }
 }
 
-/// Before any post a watcher sees none, and reads the labels of the book.
-fn expect_nothing_posted<R: Threads + Abort>(
-    rt: &R,
-    board: &Board,
-    book: &Book,
-    watcher: &mut Watcher,
-    names: &[u32],
-    view: &mut View,
-)
-    requires book { length book.now.labels ≡ 10 }
-    requires watcher { watcher.old.board ≡ board.now.id }
-    requires names { IsStrictlyIncreasing names.now × All (λ n. n < board.now.names) names.now }
-    requires room { length names.now ≤ view.old.room }
-    ensures watcher { watcher.new.board ≡ board.now.id }
-    ensures room { view.new.room ≡ view.old.room }
-{
-    let posted = look_and_fill(rt, board, watcher, names, view);
-    assert_eq!(rt; posted, 0);
-    assert_eq!(rt; count_stale(book, 10, view), 0);
-}
-
 /// A watcher reads all names, first before any post, and then after each.
-fn read_before_and_after<R: Threads + Abort>(
-    rt: &R,
+fn read_before_and_after(
+    rt: &impl Abort,
     alloc: Global,
     board: &Board,
     scribe: &mut Scribe,
@@ -362,17 +312,14 @@ fn read_before_and_after<R: Threads + Abort>(
     let mut view = View::new(alloc, 10)?;
     let names = numbers(alloc, 10)?;
     let names = names.as_slice();
-    expect_nothing_posted(rt, board, book, watcher, names, &mut view);
+    board.fill(watcher, names, &[], &mut view);
+    assert_eq!(rt; count_stale(book, 10, &view), 0);
     post_and_read(rt, board, scribe, book, watcher, names, &mut view, 9);
     Ok(())
 }
 
 /// The same on a board over the book, for its only watcher.
-fn read_on_a_board<R: Threads + Abort>(
-    rt: &R,
-    alloc: Global,
-    book: &mut Book,
-) -> Result<(), NoMemory>
+fn read_on_a_board(rt: &impl Abort, alloc: Global, book: &mut Book) -> Result<(), NoMemory>
     requires book { (length book.old.labels ≡ 10) × (book.old.journal ≡ []) × (book.old.room ≡ 9) }
 {
     let (board, mut scribe, mut watchers) = Board::new(alloc, book, 10, 1)?;

@@ -1,10 +1,11 @@
 -- Pairs that look at one class from one end and at another class from the other.
-use Rattle.std.proofs.Common.{ℕ, Contains, length, slice_index, ◌≡◌, ◌<◌, ◌↔◌, inl, inr, sym, arith}
+use Rattle.std.proofs.Common.{List, ℕ, refl, Contains, length, slice_index, ◌≡◌, ◌<◌, ◌↔◌, inl, inr, sym, arith}
 use Rattle.chase_laws.specs.Core.{Task, IsTask, name_count, PairAt}
 use Rattle.chase_laws.proofs.CallerLemmas.{near_named, All-at}
 use Rattle.list_pool.specs.Pool.{list_at}
 use Rattle.class_book.specs.Classes.{Classes, class_of, IsClass, IsLabelled}
 use Rattle.near_lists.specs.Neighbourhoods.{AreNearNames}
+use Rattle.near_lists.specs.Turning.{HasEnd}
 use Rattle.chase_core.specs.Setup.{Preparation}
 use Rattle.chase_core.specs.Gathering.{HasEnds, LooksPast, LooksAcross}
 
@@ -16,6 +17,10 @@ ends_named T ok p a b at =
 
 pub end_named : (T : Task) → IsTask T → (q e o : ℕ) → HasEnds T.pairs q e o → e < name_count T
 end_named T ok q e o h = elim h [ inl k ↦ (ends_named T ok q e o k).0 | inr k ↦ (ends_named T ok q o e k).1 ]
+
+-- a pair with two ends has each of them
+pub end_of : (pairs : List (ℕ × ℕ)) (q e o : ℕ) → HasEnds pairs q e o → HasEnd pairs q e
+end_of pairs q e o h = elim h [ inl k ↦ (e, o, k, inl refl) | inr k ↦ (o, e, k, inr refl) ]
 
 -- either end may come first
 pub turned_ends : (pairs : _) (q e o : ℕ) → HasEnds pairs q e o → HasEnds pairs q o e

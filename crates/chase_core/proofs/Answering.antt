@@ -1,6 +1,5 @@
 -- The event that each answer stands for.
-use Rattle.std.proofs.Common.{List, [], ◌∷◌, ℕ, suc, Option, Some, None, Bool, true, false, not, All, slice_get, slice_index, slice_set, get_or, length, ◌≡◌, ◌≢◌, ◌<◌, ◌⊎◌, ◌↔◌, inl, inr, ◌==◌, refl, sym, ◌∙◌, ap, subst, arith, eqb-true, eq-eqb, ne_eqb, ap₂, zero}
-use Rattle.std.specs.Option.{is_some, IfNone, IfSome}
+use Rattle.std.proofs.Common.{List, [], ◌∷◌, ℕ, suc, Some, All, slice_get, slice_index, slice_set, get_or, length, ◌≡◌, ◌≢◌, ◌<◌, ◌⊎◌, ◌↔◌, inl, inr, ◌==◌, refl, sym, ◌∙◌, ap, subst, arith, eqb-true, eq-eqb, ne_eqb, ap₂, zero}
 use Rattle.std.proofs.lemmas.Bool.{cases_Bool, cond-true, cond-false, both_ways}
 use Rattle.std.proofs.lemmas.Option.{slice_get_within, slice_get-get_or, get_or_from_slice_get, same_Some}
 use Rattle.chase_laws.specs.declared.pair_state.PairState.{PairState}
@@ -11,6 +10,7 @@ use Rattle.chase_laws.specs.View.{label_in, same_by}
 use Rattle.chase_laws.specs.Core.{Task, IsTask, PairAt, EndsJoined, ListsNear, IsPresent}
 use Rattle.chase_laws.proofs.CallerLemmas.{near_named}
 use Rattle.paired_search.specs.Held.{Ascends}
+use Rattle.list_pool.specs.Pool.{without}
 use Rattle.class_book.specs.Classes.{Classes}
 use Rattle.chase_core.specs.declared.ticket.Ticket.{Ticket}
 use Rattle.chase_core.specs.declared.ticket.Outcome.{Outcome}
@@ -20,8 +20,7 @@ use Rattle.chase_core.specs.declared.ticket.Settled.TheVariants as settled
 use Rattle.chase_core.specs.Setup.{Preparation}
 use Rattle.chase_core.specs.Table.{Standings}
 use Rattle.chase_core.specs.Running.{Running, state_of, state_in, running_with}
-use Rattle.chase_core.specs.Settling.{Settles, Notes, IsFirstOvertaken}
-use Rattle.chase_core.specs.Inner.{SettlesMissed}
+use Rattle.chase_core.specs.Settling.{Settles, GoesLast, IsFirstOvertaken}
 use Rattle.chase_core.proofs.Taken.{joined_apart}
 
 -- ---- the label of a name in a view whose names ascend
@@ -66,32 +65,27 @@ module _ (T : Task) (ok : IsTask T) (labels : List ℕ) (count : length labels �
 
 -- ---- the events
 
-module _ (S : Preparation) (book : Classes) (old new : Standings) (t : Ticket) (view : List (ℕ × ℕ)) (up : Ascends view) (ends : PairAt S.task t.pair t.a t.b) (apart : ¬ (Joined book.journal t.a t.b))
-    (near : ListsNear S.task t.a t.b view) (none : ¬ (Matches S.task.graph S.task.patterns (same_by view) t.a t.b)) where
+module _ (S : Preparation) (book : Classes) (old new : Standings) (t : Ticket) (view : List (ℕ × ℕ)) (up : Ascends view) (ends : PairAt S.task t.pair t.a t.b) (apart : ¬ (Joined book.journal t.a t.b)) where
   state_is : (ss : List PairState) → new.states ≡ ss → state_of book new ≡ record (state_of book old) { pairs = ss }
   state_is ss e = ap (λ (xs : List PairState). state_of book (record { states = xs; ready = new.ready })) e
 
-  pub settles_missed : (answer : Settled) → SettlesMissed book old new view t.pair answer → Settles (running_with S book old) t view outcome.Missed answer (running_with S book new)
-  settles_missed settled.Missed h = (
-    (t.a, t.b, ends, apart, near, (λ n l at. let r = label_at view n l at in h.0 r.0 n l r.1), none, state_is (slice_set old.states t.pair state.Missed) h.1),
+  pub settles_missed : ListsNear S.task t.a t.b view → ¬ (Matches S.task.graph S.task.patterns (same_by view) t.a t.b) →
+      ((k n l : ℕ) → slice_get view k ≡ Some (n, l) → l ≡ slice_index book.labels n) → new.states ≡ slice_set old.states t.pair state.Missed → new.ready ≡ without old.ready t.pair →
+      Settles (running_with S book old) t view outcome.Missed settled.Missed (running_with S book new)
+  settles_missed near none present states ready = (
+    (t.a, t.b, ends, apart, near, (λ n l at. let r = label_at view n l at in present r.0 n l r.1), none, state_is (slice_set old.states t.pair state.Missed) states),
     refl,
-    h.2,
+    ready,
   )
-  settles_missed (settled.Reopened node seen now) h = (
-    ((t.a, t.b, ends, apart), (node, seen, label_of view h.0.place node seen up h.0.stands, (λ e. h.0.differs (e ∙ sym h.0.present))), state_is (slice_set old.states t.pair state.Ready) h.1),
-    h.0,
-    refl,
-    h.2,
-  )
-  settles_missed settled.Already h = absurd h
-  settles_missed (settled.Entered place) h = absurd h
 
-  -- nothing is noted
-  pub notes_missed : (answer : Settled) (room : ℕ) → SettlesMissed book old new view t.pair answer → Notes (running_with S book old) t.pair answer (running_with S book new) room []
-  notes_missed settled.Missed room h = refl
-  notes_missed (settled.Reopened node seen now) room h = refl
-  notes_missed settled.Already room h = absurd h
-  notes_missed (settled.Entered place) room h = absurd h
+  pub settles_reopened : (node seen now : ℕ) → IsFirstOvertaken book.labels view node seen now → new.states ≡ slice_set old.states t.pair state.Ready → GoesLast old t.pair new →
+      Settles (running_with S book old) t view outcome.Missed (settled.Reopened node seen now) (running_with S book new)
+  settles_reopened node seen now first states last = (
+    ((t.a, t.b, ends, apart), (node, seen, label_of view first.place node seen up first.stands, (λ e. first.differs (e ∙ sym first.present))), state_is (slice_set old.states t.pair state.Ready) states),
+    first,
+    refl,
+    last,
+  )
 
 -- ---- the first answer
 
@@ -128,18 +122,3 @@ never_again old new t view found (settled.Entered place) present s node seen now
 never_again old new t view found settled.Missed present s node seen now e = absurd (cc)
 never_again old new t view (outcome.Found f) (settled.Reopened n l m) present s node seen now e = absurd s
 never_again old new t view outcome.Missed (settled.Reopened n l m) present s node seen now e = let o = s.0.1 in o.3 (present o.0 o.1 o.2)
-
--- ---- whether a view has the present labels
-
--- where no label of a view was found that is not the present one, each is
-pub all_present : (first : Option (ℕ × ℕ × ℕ)) (labels : List ℕ) (view : List (ℕ × ℕ)) → is_some first ≡ false → IfNone first ((k n l : ℕ) → slice_get view k ≡ Some (n, l) → l ≡ slice_index labels n) →
-    (n l : ℕ) → label_in view n ≡ Some l → l ≡ slice_index labels n
-all_present (Some f) labels view e each n l at = absurd (cc)
-all_present None labels view e each n l at = let r = label_at view n l at in each r.0 n l r.1
-
--- where a view's names ascend and each label is the present one, none was found that is not
-pub none_overtaken : (first : Option (ℕ × ℕ × ℕ)) (told : Bool) (labels : List ℕ) (view : List (ℕ × ℕ)) → Ascends view → is_some first ≡ not told → IfSome first (λ r. IsFirstOvertaken labels view r.0 r.1 r.2) →
-    ((n l : ℕ) → label_in view n ≡ Some l → l ≡ slice_index labels n) → told ≡ true
-none_overtaken None true labels view up e found each = refl
-none_overtaken None false labels view up e found each = absurd (cc)
-none_overtaken (Some f) told labels view up e found each = absurd (found.differs (each f.0 f.1 (label_of view found.place f.0 f.1 up found.stands) ∙ sym found.present))

@@ -140,12 +140,6 @@ aside_more R es i old mid new xs ys zs h s t =
 
 -- ---- one pair
 
-pub missed_or_not : (s : PairState) → (s ≡ state.Missed) ⊎ (s ≢ state.Missed)
-missed_or_not state.Ready = inr (λ e. cc)
-missed_or_not state.Flying = inr (λ e. cc)
-missed_or_not state.Missed = inl refl
-missed_or_not state.Joined = inr (λ e. cc)
-
 pub aside_one : (old new : Standings) (p : ℕ) (xs : List ℕ) → IsReadyList old.states old.ready → slice_get old.states p ≡ Some state.Missed → new.states ≡ slice_set old.states p state.Flying →
     new.ready ≡ without old.ready p → SetsAside (λ q. p ≡ q) old new xs (xs ++ p ∷ [])
 aside_one old new p xs r missed states ready = record {
@@ -203,10 +197,6 @@ module _ (states : List PairState) (aside : List ℕ) (capacity : ℕ) (a : AreA
   }
 
 -- ---- pairs made Ready in order
-
-pub take_nil : {X : Type 0} (n : ℕ) → let none : List X = [] in take n none ≡ none
-take_nil zero = refl
-take_nil (suc n) = refl
 
 pub take_push : {X : Type 0} (n : ℕ) (xs : List X) (x : X) → take n (take n xs ++ x ∷ []) ≡ take n (xs ++ x ∷ [])
 take_push zero xs x = refl

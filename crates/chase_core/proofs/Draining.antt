@@ -1,13 +1,12 @@
 -- A pair taken, searched and settled, over and over.
-use Rattle.std.proofs.Common.{List, [], ◌∷◌, ◌++◌, ℕ, Option, Some, None, Contains, slice_get, slice_set, get_or, length, ◌≡◌, ◌≢◌, ◌<◌, ◌≤◌, ◌+◌, ◌*◌, ◌-◌, ◌⊎◌, inl, inr, refl, sym, ◌∙◌, ap, subst, arith, append-nil, length-append, length-set, not, ◌==◌, eqb-true}
+use Rattle.std.proofs.Common.{List, [], ◌∷◌, ◌++◌, ℕ, Option, Some, None, Contains, slice_get, slice_set, get_or, length, ◌≡◌, ◌≢◌, ◌<◌, ◌≤◌, ◌+◌, ◌*◌, ◌-◌, ◌⊎◌, inl, inr, refl, sym, ◌∙◌, ap, subst, arith, length-append, length-set, not, ◌==◌, eqb-true}
 use Rattle.std.specs.Prelude.{IfSome, MatchOption}
 use Rattle.std.proofs.lemmas.Bool.{cases_eq}
 use Rattle.std.proofs.lemmas.Bool.Decides.{Decides-eqb}
-use Rattle.std.proofs.lemmas.Option.{slice_get_within, slice_get-get_or, same_Some}
+use Rattle.std.proofs.lemmas.Option.{slice_get_within, slice_get-get_or, same_Some, some_pair_parts}
 use Rattle.std.proofs.lemmas.Map.Made.{IsDistinct-from_AllPairs}
 use Rattle.std.proofs.lemmas.Map.Steps.{length-le_from_distinct_below}
 use Rattle.std.proofs.lemmas.Map.Views.{Contains-from_any}
-use Rattle.chase_laws.specs.declared.entry.Entry.{Entry}
 use Rattle.chase_laws.specs.declared.pair_state.PairState.{PairState}
 use Rattle.chase_laws.specs.declared.pair_state.PairState.TheVariants as state
 use Rattle.chase_laws.specs.Joined.{Joined}
@@ -25,9 +24,9 @@ use Rattle.chase_core.specs.Running.{Running, state_in, IsRunning}
 use Rattle.chase_core.specs.Taking.{TakesFirst, TakesHint, pair_of}
 use Rattle.chase_core.specs.Settling.{entry_of, Settles}
 use Rattle.std.proofs.lemmas.List.{length_push}
+use Rattle.std.proofs.lemmas.List.Sums.{length-filter, count_by-le-length}
 use Rattle.class_book.specs.Classes.{Classes}
-use Rattle.chase_core.proofs.Ends.{same_parts}
-use Rattle.chase_core.proofs.Members.{Contains-nil, filter_short}
+use Rattle.chase_core.proofs.Members.{Contains-nil}
 use Rattle.chase_core.proofs.Tables.{set_here, set_other}
 use Rattle.chase_core.proofs.Aside.{length-set_each}
 use Rattle.chase_core.proofs.Passed.{set_each_from}
@@ -63,7 +62,7 @@ less_by_one p j k r s lt e le = let d : p - j ≡ (p - k) + 1 = omega arith in r
 event_apart : (old mid : Running) (t : Ticket) (passed : List ℕ) → mid.book ≡ old.book → Happens old.setup.task (state_in old) (Take passed (Some t.pair)) (state_in mid) → PairAt old.setup.task t.pair t.a t.b → ¬ (Joined mid.book.journal t.a t.b)
 event_apart old mid t passed book event at =
     let k = event.1.1 in
-    let e = same_parts (slice_get old.setup.task.pairs t.pair) t.a t.b k.0 k.1 at k.2 in
+    let e = some_pair_parts t.a k.0 t.b k.1 (sym at ∙ k.2) in
     λ j. k.3 (subst (λ n. Joined old.book.journal n k.1) e.0 (subst (Joined old.book.journal t.a) e.1 (subst (λ (B : Classes). Joined B.journal t.a t.b) book j)))
 
 -- the ends of a pair that was handed out are not joined
@@ -135,22 +134,11 @@ module _ (law : CoreLaw) (old mid : Running) (t : Ticket) (running : IsRunning o
   landed new view (outcome.Found f) (settled.Reopened node seen now) h s = absurd s
   landed new view outcome.Missed (settled.Reopened node seen now) h s = written new state.Ready h (λ e. cc) (ap (λ (S : State). S.pairs) s.0.2)
 
-  -- the journal goes on
-  pub goes_on : (new : Running) (view : List (ℕ × ℕ)) (found : Outcome) (answer : Settled) → Settles mid t view found answer new → (more : List Entry) × (new.book.journal ≡ old.book.journal ++ more)
-  goes_on new view (outcome.Found f) settled.Already s = ([], ap (λ (B : Classes). B.journal) (s.1 ∙ book) ∙ sym (append-nil old.book.journal))
-  goes_on new view outcome.Missed settled.Already s = ([], ap (λ (B : Classes). B.journal) (s.1 ∙ book) ∙ sym (append-nil old.book.journal))
-  goes_on new view (outcome.Found f) (settled.Entered place) s = (entry_of t f ∷ [], s.0.3.journal ∙ ap (λ (B : Classes). B.journal ++ entry_of t f ∷ []) book)
-  goes_on new view outcome.Missed (settled.Entered place) s = absurd s
-  goes_on new view (outcome.Found f) settled.Missed s = absurd s
-  goes_on new view outcome.Missed settled.Missed s = ([], ap (λ (B : Classes). B.journal) (s.1 ∙ book) ∙ sym (append-nil old.book.journal))
-  goes_on new view (outcome.Found f) (settled.Reopened node seen now) s = absurd s
-  goes_on new view outcome.Missed (settled.Reopened node seen now) s = ([], ap (λ (B : Classes). B.journal) (s.2 ∙ book) ∙ sym (append-nil old.book.journal))
-
   shorter : (new : Running) → new.setup ≡ mid.setup → new.book ≡ mid.book → length new.table.ready ≤ length mid.table.ready → left_to_do new < left_to_do old
   shorter new same_setup same_book le = rw (same_setup ∙ setup, same_book ∙ book) (omega (arith, fewer))
 
   without_short : (p : ℕ) → length (without mid.table.ready p) ≤ length mid.table.ready
-  without_short p = filter_short (λ o. not (o == p)) mid.table.ready
+  without_short p = rw length-filter (count_by-le-length (λ o. not (o == p)) mid.table.ready)
 
   -- there is less to do
   pub less : (new : Running) (view : List (ℕ × ℕ)) (found : Outcome) (answer : Settled) → new.setup ≡ mid.setup → IsRunning new → IsPresent (state_in mid) view → Settles mid t view found answer new → left_to_do new < left_to_do old

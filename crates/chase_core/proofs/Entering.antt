@@ -1,5 +1,6 @@
 -- Which pairs an entry wakes.
-use Rattle.std.proofs.Common.{ℕ, slice_index, length, min, ◌≡◌, ◌≢◌, ◌<◌, ◌-◌, ◌+◌, ◌↔◌, inl, inr, sym, ◌∙◌, subst, arith, slice_get}
+use Rattle.std.proofs.Common.{ℕ, slice_index, length, min, ◌≡◌, ◌≢◌, ◌<◌, ◌-◌, ◌+◌, ◌↔◌, inl, inr, sym, ◌∙◌, subst, arith}
+use Rattle.std.proofs.lemmas.Option.{some_pair_parts}
 use Rattle.chase_laws.specs.Near.{IsNear}
 use Rattle.chase_laws.specs.Joined.{LabelsJoin}
 use Rattle.chase_laws.specs.Core.{IsTask, name_count, PairAt, AreBroughtTogether}
@@ -11,7 +12,6 @@ use Rattle.chase_core.specs.Table.{Standings}
 use Rattle.chase_core.specs.Running.{state_of}
 use Rattle.chase_core.specs.Gathering.{LooksAt, LooksAcross}
 use Rattle.chase_core.proofs.Across.{ends_named}
-use Rattle.chase_core.proofs.Ends.{same_parts}
 use Rattle.chase_core.proofs.Relabelling.{brought_from, brought_to}
 
 -- the room that is left while the journal is shorter
@@ -54,9 +54,9 @@ module _ (S : Preparation) (ok : IsTask S.task) (near : AreNearNames S.task.grap
           | inr k ↦ (d, c, inr at, looks d h.1 x ends.1 h.3 k.1, looks c h.0 y ends.0 h.2 k.0)
         ]),
         (λ h. elim h.2 [
-          | inl k ↦ (let r = same_parts (slice_get S.task.pairs q) c d h.0 h.1 at k in
+          | inl k ↦ (let r = some_pair_parts c h.0 d h.1 (sym at ∙ k) in
               together c d ends.0 ends.1 (subst (λ e. LooksAt S old.labels e x) (sym r.0) h.3) (subst (λ e. LooksAt S old.labels e y) (sym r.1) h.4))
-          | inr k ↦ (let r = same_parts (slice_get S.task.pairs q) c d h.1 h.0 at k in
+          | inr k ↦ (let r = some_pair_parts c h.1 d h.0 (sym at ∙ k) in
               turned d c (together d c ends.1 ends.0 (subst (λ e. LooksAt S old.labels e x) (sym r.1) h.3) (subst (λ e. LooksAt S old.labels e y) (sym r.0) h.4)))
         ]),
       )

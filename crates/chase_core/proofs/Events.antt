@@ -6,6 +6,7 @@ use Rattle.chase_laws.proofs.CallerLemmas.{lean_bound, at_most_pairs, slice_get-
 use Rattle.chase_core.proofs.Across.{ends_named}
 use Rattle.std.specs.List.{range_with_len}
 use Rattle.std.proofs.lemmas.List.{same_lists, get_or_default}
+use Rattle.std.proofs.lemmas.List.FromFn.{length-range_with_len, get_or-range_with_len}
 use Rattle.chase_laws.specs.Core.{Task, IsTask, State, IsSound, Event, Happens, name_count, opening}
 use Rattle.chase_laws.specs.Core.Event.{Take, Enter, Already, Miss, Reopen}
 use Rattle.chase_laws.specs.declared.entry.Entry.{Entry}
@@ -23,7 +24,6 @@ use Rattle.chase_core.specs.Running.{Running, journal_room, state_in, state_of, 
 use Rattle.chase_core.specs.Inner.{IsKept}
 use Rattle.chase_core.specs.Taking.{TakesFirst, TakesHint}
 use Rattle.chase_core.specs.Settling.{entry_of, Settles}
-use Rattle.chase_core.proofs.Members.{length-range, get_or-range}
 
 -- the law of single events, as its clause says it
 abbrev pub EventsKeep : Type 0
@@ -79,10 +79,17 @@ kept_by law S old_book new_book old new before after k event h room aside = reco
   aside = rw aside k.aside;
 }
 
+pub settled_kept : EventsKeep → (S : Preparation) (old_book new_book : Classes) (old new : Standings) (before after : ℕ) → IsKept (running_with S old_book old) before →
+    (t : Ticket) (view : List (ℕ × ℕ)) (found : Outcome) (answer : Settled) → Settles (running_with S old_book old) t view found answer (running_with S new_book new) →
+    new_book.room ≡ old_book.room → after ≡ before → IsKept (running_with S new_book new) after
+settled_kept law S old_book new_book old new before after k t view found answer s =
+    let event = settled_event (running_with S old_book old) (running_with S new_book new) t view found answer s in
+    kept_by law S old_book new_book old new before after k event.0 event.1
+
 -- a book in which each node is alone has the labels of the opening state
 pub own_labels : (labels : List ℕ) (n : ℕ) → length labels ≡ n → ((k : ℕ) → k < n → slice_index labels k ≡ k) → labels ≡ range_with_len 0 n
-own_labels labels n count own = same_lists labels (range_with_len 0 n) (count ∙ sym (length-range 0 n))
-    (λ k d h. let within : k < n = rw count at h in get_or_default labels k d 0 h ∙ own k within ∙ (let e = get_or-range 0 n k d within in omega arith))
+own_labels labels n count own = same_lists labels (range_with_len 0 n) (count ∙ sym (length-range_with_len 0 n))
+    (λ k d h. let within : k < n = rw count at h in get_or_default labels k d 0 h ∙ own k within ∙ (let e = get_or-range_with_len 0 n k d within in omega arith))
 
 pub opens : (T : Task) (journal : List Entry) (labels : List ℕ) (states : List PairState) → journal ≡ [] → labels ≡ range_with_len 0 (name_count T) → states ≡ replicate (length T.pairs) state.Ready →
     (let r : State = record { journal = journal; labels = labels; pairs = states } in r) ≡ opening T

@@ -1,10 +1,9 @@
 -- A ticket stays good while the journal goes on.
-use Rattle.std.proofs.Common.{List, [], ◌∷◌, ◌++◌, ℕ, Option, Some, None, IsTrue, ◌≡◌, sym, ◌∙◌, ap, subst, append-nil}
-use Rattle.std.specs.Prelude.{IfSome, OnSome}
+use Rattle.std.proofs.Common.{List, [], ◌∷◌, ◌++◌, ℕ, ◌≡◌, sym, ◌∙◌, ap, subst, append-nil}
 use Rattle.std.proofs.lemmas.List.{map-append}
 use Rattle.chase_laws.specs.declared.entry.Entry.{Entry}
-use Rattle.chase_laws.specs.Joined.{links, Joined}
-use Rattle.chase_laws.specs.Core.{Task, State, PairAt, ListsNear}
+use Rattle.chase_laws.specs.Joined.{links}
+use Rattle.chase_laws.specs.Core.{Task, State}
 use Rattle.chase_laws.specs.View.{same_by}
 use Rattle.chase_laws.proofs.CallerLemmas.{Within, Within-append, found_step}
 use Rattle.class_book.specs.Classes.{Classes}
@@ -27,13 +26,6 @@ held_longer T seen more t view h = record { ends = h.ends; near = h.near; joined
 pub held_right : (T : Task) (S : State) (t : Ticket) (view : List (ℕ × ℕ)) (found : Outcome) → IsHeld T S.journal t view → IsFoundBy T t view found → IsRightOutcome T S t view found
 held_right T S t view (outcome.Found f) h found = found_step T.graph T.patterns S.journal (entry_of t f) found.0 (same_by view) found.1 found.2 h.joined
 held_right T S t view outcome.Missed h found = found
-
--- what was handed out is held
-pub held_ticket : (T : Task) (seen : List Entry) (view : List (ℕ × ℕ)) (o : Option Ticket) (P : Type 0) →
-    ((t : Ticket) → ListsNear T t.a t.b view → P → (m n : ℕ) → IsTrue (same_by view m n) → Joined seen m n) →
-    IfSome o (λ t. PairAt T t.pair t.a t.b) → IfSome o (λ t. ListsNear T t.a t.b view) → OnSome o P → IfSome o (λ t. IsHeld T seen t view)
-held_ticket T seen view None P joined ends near present = tt
-held_ticket T seen view (Some t) P joined ends near present = record { ends = ends; near = near; joined = joined t near present }
 
 -- settling a pair appends an entry at most
 pub settled_grows : (old new : Running) (t : Ticket) (view : List (ℕ × ℕ)) (found : Outcome) (answer : Settled) → Settles old t view found answer new → (more : List Entry) × (new.book.journal ≡ old.book.journal ++ more)

@@ -1,8 +1,10 @@
 -- What stands in a list that was cut, joined or filtered, and in the list of the first numbers.
-use Rattle.std.proofs.Common.{List, [], ◌∷◌, ◌++◌, ℕ, zero, suc, Bool, true, false, Contains, AllPairs, filter, length, get_or, ◌≡◌, ◌≢◌, ◌<◌, ◌≤◌, ◌+◌, ◌⊎◌, ◌↔◌, inl, inr, refl, sym, ◌∙◌, ap, subst, ◌-◌, arith, length-append}
+use Rattle.std.proofs.Common.{List, [], ◌∷◌, ◌++◌, ℕ, zero, suc, Bool, true, false, Contains, AllPairs, filter, length, get_or, ◌≡◌, ◌≢◌, ◌<◌, ◌+◌, ◌⊎◌, ◌↔◌, inl, inr, refl, sym, ◌∙◌, ap, subst, ◌-◌, arith, length-append}
 use Rattle.std.specs.List.{range_with_len}
-use Rattle.std.proofs.lemmas.Bool.{cases_Bool, cases_lt, cond-true, cond-false, cond_both}
+use Rattle.std.proofs.lemmas.Bool.{cases_Bool, cases_lt, cond-true, cond-false}
 use Rattle.std.proofs.lemmas.List.{get_or_append_left, get_or-append_right}
+use Rattle.std.proofs.lemmas.List.Elements.{All-contains, All-contains_itself, All-filter, filter_passes}
+use Rattle.std.proofs.lemmas.List.FromFn.{length-range_with_len, get_or-range_with_len}
 
 pub Contains-head : {X : Type 0} (x : X) (xs : List X) → Contains (x ∷ xs) x
 Contains-head x xs = (0, omega arith, refl)
@@ -22,14 +24,10 @@ Contains-nil x h = omega (arith, h.1)
 
 -- what passes a test
 pub Contains-filter : {X : Type 0} (p : X → Bool) (xs : List X) (x : X) → Contains (filter p xs) x → Contains xs x × (p x ≡ true)
-Contains-filter p [] x h = absurd (Contains-nil x h)
-Contains-filter {X} p (y ∷ ys) x h = elim (cases_Bool (p y)) [
-  | inl t ↦ elim (Contains-cons_cases y (filter p ys) x (subst (λ zs. Contains zs x) (cond-true (p y) (y ∷ filter p ys) (filter p ys) t) h)) [
-    | inl e ↦ ((0, omega arith, e), ap p (sym e) ∙ t)
-    | inr k ↦ (let r = Contains-filter p ys x k in (Contains-tail y ys x r.0, r.1))
-  ]
-  | inr f ↦ (let r = Contains-filter p ys x (subst (λ zs. Contains zs x) (cond-false (p y) (y ∷ filter p ys) (filter p ys) f) h) in (Contains-tail y ys x r.0, r.1))
-]
+Contains-filter p xs x h = (
+  All-contains (Contains xs) (filter p xs) x (All-filter p (Contains xs) xs (All-contains_itself xs)) h,
+  All-contains (λ y. p y ≡ true) (filter p xs) x (filter_passes p xs) h,
+)
 
 pub filter-Contains : {X : Type 0} (p : X → Bool) (xs : List X) (x : X) → Contains xs x → p x ≡ true → Contains (filter p xs) x
 filter-Contains p [] x h t = absurd (Contains-nil x h)
@@ -50,21 +48,7 @@ filter_whole p [] all = refl
 filter_whole p (y ∷ ys) all =
     cond-true (p y) (y ∷ filter p ys) (filter p ys) (all y (Contains-head y ys)) ∙ ap (λ zs. y ∷ zs) (filter_whole p ys (λ x h. all x (Contains-tail y ys x h)))
 
--- a filter leaves no more
-pub filter_short : {X : Type 0} (p : X → Bool) (xs : List X) → length (filter p xs) ≤ length xs
-filter_short p [] = omega arith
-filter_short p (x ∷ xs) = cond_both (p x) (x ∷ filter p xs) (filter p xs) (λ ys. length ys ≤ suc (length xs)) (λ _. omega (arith, filter_short p xs)) (λ _. omega (arith, filter_short p xs))
-
 -- ---- the numbers from a first one on
-
-pub length-range : (k n : ℕ) → length (range_with_len k n) ≡ n
-length-range k zero = refl
-length-range k (suc n) = ap suc (length-range (k + 1) n)
-
-pub get_or-range : (k n m d : ℕ) → m < n → get_or (range_with_len k n) m d ≡ k + m
-get_or-range k zero m d h = absurd (omega arith)
-get_or-range k (suc n) zero d h = omega arith
-get_or-range k (suc n) (suc m) d h = get_or-range (k + 1) n m d (omega arith) ∙ omega arith
 
 pub range_push : (k n m : ℕ) → m ≡ k + n → range_with_len k (suc n) ≡ range_with_len k n ++ m ∷ []
 range_push k zero m e = ap (λ i. i ∷ []) (omega arith)
@@ -72,14 +56,14 @@ range_push k (suc n) m e = ap (λ ns. k ∷ ns) (range_push (k + 1) n m (omega a
 
 pub Contains-range : (n p : ℕ) → Contains (range_with_len 0 n) p ↔ (p < n)
 Contains-range n p = (
-  (λ h. let k : h.0 < n = subst (λ m. h.0 < m) (length-range 0 n) h.1 in let e = get_or-range 0 n h.0 p k in let f = h.2 in omega arith),
-  (λ h. (p, rw length-range h, get_or-range 0 n p p h ∙ omega arith)),
+  (λ h. let k : h.0 < n = subst (λ m. h.0 < m) (length-range_with_len 0 n) h.1 in let e = get_or-range_with_len 0 n h.0 p k in let f = h.2 in omega arith),
+  (λ h. (p, rw length-range_with_len h, get_or-range_with_len 0 n p p h ∙ omega arith)),
 )
 
 pub AllPairs-range : (n : ℕ) → AllPairs (λ a b. a ≢ b) (range_with_len 0 n)
 AllPairs-range n i j d lt h e =
-    let k : j < n = subst (λ m. j < m) (length-range 0 n) h in
-    absurd (omega (arith, get_or-range 0 n i d (omega arith), get_or-range 0 n j d k, e))
+    let k : j < n = subst (λ m. j < m) (length-range_with_len 0 n) h in
+    absurd (omega (arith, get_or-range_with_len 0 n i d (omega arith), get_or-range_with_len 0 n j d k, e))
 
 -- ---- a relation of each element with each later one
 

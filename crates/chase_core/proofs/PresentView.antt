@@ -12,21 +12,21 @@ use Rattle.chase_laws.specs.Graph.{NumberedGraph}
 use Rattle.chase_laws.specs.Valuation.{AgreeAt, Matches}
 use Rattle.chase_laws.specs.View.{label_in, both_equal, same_by}
 use Rattle.chase_laws.specs.Joined.{links, LabelsJoin, Joined}
-use Rattle.chase_laws.specs.Core.{IsTask, State, PairAt, ListsNear, IsPresent, Happens, name_count}
-use Rattle.chase_laws.specs.Core.Event.{Enter, Miss}
+use Rattle.chase_laws.specs.Core.{IsTask, State, PairAt, ListsNear, IsPresent, name_count}
 use Rattle.chase_laws.proofs.CallerLemmas.{near_named, joined_refl}
 use Rattle.list_pool.specs.Pool.{list_at, without}
 use Rattle.class_book.specs.Classes.{Classes}
 use Rattle.chase_core.specs.declared.ticket.Ticket.{Ticket}
 use Rattle.chase_core.specs.declared.ticket.Outcome.TheVariants as outcome
+use Rattle.chase_core.specs.declared.ticket.Settled.{Settled}
 use Rattle.chase_core.specs.declared.ticket.Settled.TheVariants as settled
 use Rattle.near_lists.specs.Neighbourhoods.{AreNearNames}
 use Rattle.chase_core.specs.Setup.{Preparation}
 use Rattle.chase_core.specs.Table.{Standings}
 use Rattle.chase_core.specs.Running.{state_of, running_with}
-use Rattle.chase_core.specs.Present.{same_by_labels, SettlesPresent, CoversLabels}
+use Rattle.chase_core.specs.Present.{same_by_labels, SettlesPresent}
 use Rattle.paired_search.specs.declared.all_keys.Finding.{Finding}
-use Rattle.chase_core.specs.Settling.{entry_of}
+use Rattle.chase_core.specs.Settling.{Settles}
 use Rattle.chase_core.proofs.Across.{ends_named}
 use Rattle.chase_core.proofs.Members.{Contains-head, Contains-tail, Contains-cons_cases, Contains-nil}
 
@@ -165,20 +165,6 @@ module _ (S : Preparation) (ok : IsTask S.task) (near : AreNearNames S.task.grap
 -- ---- the two answers
 
 module _ (S : Preparation) (ok : IsTask S.task) (near : AreNearNames S.task.graph S.task.patterns S.near.near) (book new_book : Classes) (old new : Standings) (count : length book.labels ≡ name_count S.task) (t : Ticket) (ends : PairAt S.task t.pair t.a t.b) where
-  pub misses_present : ¬ (Joined book.journal t.a t.b) → ¬ (Matches S.task.graph S.task.patterns (same_by_labels book.labels) t.a t.b) →
-      new.states ≡ slice_set old.states t.pair state.Missed →
-      Happens S.task (state_of book old) (Miss t.pair (view S ok near (state_of book old) count t ends)) (state_of book new)
-  misses_present apart none states = (
-    t.a,
-    t.b,
-    ends,
-    apart,
-    lists_near S ok near (state_of book old) count t ends,
-    is_present S ok near (state_of book old) count t ends,
-    none_by_view S ok near (state_of book old) count t ends none,
-    ap (λ (xs : List PairState). state_of book (record { states = xs; ready = new.ready })) states,
-  )
-
   pub missed_present : ¬ (Joined book.journal t.a t.b) → ¬ (Matches S.task.graph S.task.patterns (same_by_labels book.labels) t.a t.b) →
       new.states ≡ slice_set old.states t.pair state.Missed → new.ready ≡ without old.ready t.pair →
       SettlesPresent (running_with S book old) t settled.Missed (running_with S book new)
@@ -187,27 +173,28 @@ module _ (S : Preparation) (ok : IsTask S.task) (near : AreNearNames S.task.grap
     near = lists_near S ok near (state_of book old) count t ends;
     present = is_present S ok near (state_of book old) count t ends;
     found = outcome.Missed;
-    settles = (misses_present apart none states, refl, ready);
+    settles = (
+      (
+        t.a,
+        t.b,
+        ends,
+        apart,
+        lists_near S ok near (state_of book old) count t ends,
+        is_present S ok near (state_of book old) count t ends,
+        none_by_view S ok near (state_of book old) count t ends none,
+        ap (λ (xs : List PairState). state_of book (record { states = xs; ready = new.ready })) states,
+      ),
+      refl,
+      ready,
+    );
   }
 
-  pub entered_present : (f : Finding) (place : ℕ) → Happens S.task (state_of book old) (Enter t.pair (entry_of t f)) (state_of new_book new) → place ≡ length book.journal →
-      SettlesPresent (running_with S book old) t (settled.Entered place) (running_with S new_book new)
-  entered_present f place event is = record {
+  pub found_present : (f : Finding) (answer : Settled) → ((shown : List (ℕ × ℕ)) → Settles (running_with S book old) t shown (outcome.Found f) answer (running_with S new_book new)) →
+      SettlesPresent (running_with S book old) t answer (running_with S new_book new)
+  found_present f answer settles = record {
     view = view S ok near (state_of book old) count t ends;
     near = lists_near S ok near (state_of book old) count t ends;
     present = is_present S ok near (state_of book old) count t ends;
     found = outcome.Found f;
-    settles = (event, is);
+    settles = settles (view S ok near (state_of book old) count t ends);
   }
-
--- ---- a pair that is unmatched
-
-pub unmatched_missed : (S : Preparation) → IsTask S.task → AreNearNames S.task.graph S.task.patterns S.near.near → (book : Classes) (old new : Standings) → length book.labels ≡ name_count S.task →
-    (t : Ticket) → PairAt S.task t.pair t.a t.b → ¬ (Joined book.journal t.a t.b) → (may_be : ℕ → ℕ → Bool) → CoversLabels book.labels may_be →
-    ¬ (Matches S.task.graph S.task.patterns may_be t.a t.b) → new.states ≡ slice_set old.states t.pair state.Missed →
-    (shown : List (ℕ × ℕ)) × Happens S.task (state_of book old) (Miss t.pair shown) (state_of book new)
-unmatched_missed S ok near book old new count t ends apart may_be covers none states = (
-  view S ok near (state_of book old) count t ends,
-  misses_present S ok near book book old new count t ends apart
-      (λ m. none (Matches-grows S.task.graph S.task.patterns (same_by_labels book.labels) may_be t.a t.b covers m)) states,
-)

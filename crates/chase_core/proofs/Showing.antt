@@ -7,9 +7,6 @@ use Rattle.paired_search.proofs.CallerLemmas.{label_push}
 abbrev pub ArePresent : List ℕ → List (ℕ × ℕ) → Type 0
 ArePresent labels view = (n l : ℕ) → label_in view n ≡ Some l → l ≡ slice_index labels n
 
-pub present_none : (labels : List ℕ) → ArePresent labels []
-present_none labels n l h = absurd (cc)
-
 pub present_more : (labels : List ℕ) (view : List (ℕ × ℕ)) (n l : ℕ) → l ≡ slice_index labels n → ArePresent labels view → ArePresent labels (view ++ (n, l) ∷ [])
 present_more labels view n l is present m k h = elim (label_push view n l m k h) [
   | inl e ↦ present m k e

@@ -1,8 +1,8 @@
 -- How the Ready list follows the states of the pairs.
-use Rattle.std.proofs.Common.{List, [], ◌∷◌, ◌++◌, ℕ, zero, suc, Option, Some, None, Contains, replicate, slice_get, slice_set, length, get_or, ◌≡◌, ◌≢◌, ◌<◌, ◌⊎◌, ◌↔◌, ◌==◌, inl, inr, not, refl, sym, ◌∙◌, ap, subst, arith, ne_eqb, length-set, get_or-set_same}
+use Rattle.std.proofs.Common.{List, [], ◌∷◌, ◌++◌, ℕ, zero, suc, Some, Contains, replicate, slice_get, slice_set, length, get_or, ◌≡◌, ◌≢◌, ◌<◌, ◌↔◌, ◌==◌, inl, inr, not, refl, sym, ◌∙◌, ap, subst, arith, ne_eqb, length-set, get_or-set_same}
 use Rattle.std.specs.List.{range_with_len}
 use Rattle.std.proofs.lemmas.Bool.{cases_eq, not-true, not_from_false, eqb-false}
-use Rattle.std.proofs.lemmas.List.{length-replicate}
+use Rattle.std.proofs.lemmas.List.{length-replicate, get_or-replicate}
 use Rattle.std.proofs.lemmas.List.Elements.{Contains-append_left, Contains-push, Contains-push_cases}
 use Rattle.std.proofs.lemmas.List.Kept.{AllPairs-filter}
 use Rattle.std.proofs.lemmas.List.Quantifiers.{all_pairs_push}
@@ -13,13 +13,6 @@ use Rattle.list_pool.specs.Pool.{list_at, IsFree, without}
 use Rattle.chase_core.specs.Table.{IsReadyList}
 use Rattle.chase_core.specs.Inner.{AreStandings}
 use Rattle.chase_core.proofs.Members.{Contains-filter, filter-Contains, filter_whole, Contains-range, AllPairs-range}
-
-pub ready_or_not : (o : Option PairState) → (o ≡ Some state.Ready) ⊎ (o ≢ Some state.Ready)
-ready_or_not None = inr (λ e. cc)
-ready_or_not (Some state.Ready) = inl refl
-ready_or_not (Some state.Flying) = inr (λ e. cc)
-ready_or_not (Some state.Missed) = inr (λ e. cc)
-ready_or_not (Some state.Joined) = inr (λ e. cc)
 
 -- ---- one element written
 
@@ -35,18 +28,13 @@ set_other (x ∷ xs) zero y (suc j) h = refl
 set_other (x ∷ xs) (suc i) y zero h = refl
 set_other (x ∷ xs) (suc i) y (suc j) h = set_other xs i y j (λ e. h (ap suc e))
 
-pub slice_get-replicate_here : {X : Type 0} (n : ℕ) (x : X) (q : ℕ) → q < n → slice_get (replicate n x) q ≡ Some x
-slice_get-replicate_here zero x q h = absurd (omega arith)
-slice_get-replicate_here (suc n) x zero h = refl
-slice_get-replicate_here (suc n) x (suc q) h = slice_get-replicate_here n x q (omega arith)
-
 -- ---- the Ready list
 
 -- of a new table
 pub all_ready : (n : ℕ) → IsReadyList (replicate n state.Ready) (range_with_len 0 n)
 all_ready n = record {
   exact = λ p. (
-    (λ h. slice_get-replicate_here n state.Ready p ((Contains-range n p).0 h)),
+    (λ h. let k = (Contains-range n p).0 h in slice_get-get_or (replicate n state.Ready) p state.Ready (rw length-replicate k) ∙ ap Some (get_or-replicate n p state.Ready state.Ready k)),
     (λ e. (Contains-range n p).1 (subst (λ m. p < m) (length-replicate n state.Ready) (slice_get_within (replicate n state.Ready) p state.Ready e))),
   );
   once = AllPairs-range n;

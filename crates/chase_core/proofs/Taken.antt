@@ -1,6 +1,8 @@
 -- What was passed over and what was handed out make a take.
-use Rattle.std.proofs.Common.{List, [], ◌∷◌, ◌++◌, ℕ, zero, suc, Option, Some, None, Contains, slice_get, slice_set, get_or, length, ◌≡◌, ◌<◌, inl, inr, refl, sym, ◌∙◌, ap, subst, arith, append-nil, append_assoc, unwrap_or}
-use Rattle.std.proofs.lemmas.Option.{slice_get_within, same_Some}
+use Rattle.std.proofs.Common.{List, [], ◌∷◌, ◌++◌, ℕ, zero, suc, Option, Some, None, Contains, slice_get, slice_set, get_or, length, ◌≡◌, ◌<◌, inl, inr, refl, sym, ◌∙◌, ap, subst, arith, append-nil, append_assoc}
+use Rattle.std.specs.Prelude.{MatchOption}
+use Rattle.std.specs.Option.{ForSome}
+use Rattle.std.proofs.lemmas.Option.{slice_get_within, same_Some, some_pair_parts}
 use Rattle.std.proofs.lemmas.List.Elements.{All-contains}
 use Rattle.chase_laws.specs.declared.pair_state.PairState.{PairState}
 use Rattle.chase_laws.specs.declared.pair_state.PairState.TheVariants as state
@@ -11,7 +13,7 @@ use Rattle.class_book.specs.Classes.{Classes}
 use Rattle.chase_core.specs.Setup.{Preparation}
 use Rattle.chase_core.specs.Table.{Standings, IsReadyList}
 use Rattle.chase_core.specs.Running.{state_of, running_with}
-use Rattle.chase_core.specs.Passing.{PassesOver, PassesHint}
+use Rattle.chase_core.specs.Passing.{PassesOver, PassesHint, Passes}
 use Rattle.chase_core.specs.Taking.{TakesFirst, TakesHint}
 use Rattle.chase_core.proofs.Tables.{set_here, without_none}
 use Rattle.chase_core.proofs.Aside.{length-set_each}
@@ -20,10 +22,8 @@ use Rattle.chase_core.proofs.Passed.{head_without, first_was_ready}
 -- ends cannot be joined and not joined
 pub joined_apart : (T : Task) (S : State) (p : ℕ) → EndsJoined T S p → EndsApart T S p → ⊥
 joined_apart T S p h k =
-    let e : Some (h.0, h.1) ≡ Some (k.0, k.1) = sym h.2 ∙ k.2 in
-    let a : h.0 ≡ k.0 = ap (λ (o : Option (ℕ × ℕ)). (unwrap_or o (0, 0)).0) e in
-    let b : h.1 ≡ k.1 = ap (λ (o : Option (ℕ × ℕ)). (unwrap_or o (0, 0)).1) e in
-    k.3 (subst (λ m. Joined S.journal m k.1) a (subst (Joined S.journal h.0) b h.3))
+    let e = some_pair_parts h.0 k.0 h.1 k.1 (sym h.2 ∙ k.2) in
+    k.3 (subst (λ m. Joined S.journal m k.1) e.0 (subst (Joined S.journal h.0) e.1 h.3))
 
 none_first : (xs : List ℕ) → None ≡ slice_get xs 0 → xs ≡ []
 none_first [] h = refl
@@ -31,7 +31,7 @@ none_first (x ∷ xs) h = absurd (cc)
 
 module _ (S : Preparation) (book : Classes) (old mid : Standings) (listed : IsReadyList old.states old.ready) where
   -- all Ready pairs were passed over
-  pub takes_none : PassesOver S.task book old mid None → TakesFirst (running_with S book old) (running_with S book mid) None
+  takes_none : PassesOver S.task book old mid None → TakesFirst (running_with S book old) (running_with S book mid) None
   takes_none p =
       let empty : mid.ready ≡ [] = none_first mid.ready p.first in
       let all : old.ready ≡ p.passed = p.have.front ∙ ap (λ xs. p.passed ++ xs) empty ∙ append-nil p.passed in
@@ -48,7 +48,7 @@ module _ (S : Preparation) (book : Classes) (old mid : Standings) (listed : IsRe
       }
 
   -- the first pair whose ends are not joined was handed out
-  pub takes_some : (next : ℕ) (new : Standings) → PassesOver S.task book old mid (Some next) → new.states ≡ slice_set mid.states next state.Flying → new.ready ≡ without mid.ready next →
+  takes_some : (next : ℕ) (new : Standings) → PassesOver S.task book old mid (Some next) → new.states ≡ slice_set mid.states next state.Flying → new.ready ≡ without mid.ready next →
       TakesFirst (running_with S book old) (running_with S book new) (Some next)
   takes_some next new p states ready =
       let was : slice_get old.states next ≡ Some state.Ready = first_was_ready S.task book old mid p.passed p.have p.listed next (sym p.first) in
@@ -61,7 +61,7 @@ module _ (S : Preparation) (book : Classes) (old mid : Standings) (listed : IsRe
       }
 
   -- the hinted pair was not handed out
-  pub takes_no_hint : (hint : ℕ) → PassesHint S.task book old mid hint None → hint < length old.states → TakesHint (running_with S book old) (running_with S book mid) hint None
+  takes_no_hint : (hint : ℕ) → PassesHint S.task book old mid hint None → hint < length old.states → TakesHint (running_with S book old) (running_with S book mid) hint None
   takes_no_hint hint p within = elim p.cases [
     | inl h ↦ absurd (let e = h.2 in cc)
     | inr rest ↦ elim rest [
@@ -95,7 +95,7 @@ module _ (S : Preparation) (book : Classes) (old mid : Standings) (listed : IsRe
       only_one (suc k) d i P h = absurd (omega arith)
 
   -- it was handed out
-  pub takes_hint : (hint next : ℕ) (new : Standings) → PassesHint S.task book old mid hint (Some next) → hint < length old.states → new.states ≡ slice_set mid.states next state.Flying → new.ready ≡ without mid.ready next →
+  takes_hint : (hint next : ℕ) (new : Standings) → PassesHint S.task book old mid hint (Some next) → hint < length old.states → new.states ≡ slice_set mid.states next state.Flying → new.ready ≡ without mid.ready next →
       TakesHint (running_with S book old) (running_with S book new) hint (Some next)
   takes_hint hint next new p within states ready = elim p.cases [
     | inl h ↦
@@ -120,21 +120,32 @@ module _ (S : Preparation) (book : Classes) (old mid : Standings) (listed : IsRe
     ]
   ]
 
-  -- a pair to hand out is one of the pairs, and none was taken from the table
-  pub next_within : (next : ℕ) → PassesOver S.task book old mid (Some next) → next < length old.states
-  next_within next p = slice_get_within old.states next state.Ready (first_was_ready S.task book old mid p.passed p.have p.listed next (sym p.first))
+  -- ---- by a hint or without
 
-  pub hint_within : (hint next : ℕ) → PassesHint S.task book old mid hint (Some next) → next < length old.states
-  hint_within hint next p = elim p.cases [
+  -- no pair was handed out
+  pub takes_not : (hint : Option ℕ) → Passes S.task book old mid hint None → ForSome hint (λ p. p < length old.states) →
+      MatchOption hint (TakesFirst (running_with S book old) (running_with S book mid) None) (λ p. TakesHint (running_with S book old) (running_with S book mid) p None)
+  takes_not None p within = takes_none p
+  takes_not (Some hint) p within = takes_no_hint hint p (within hint refl)
+
+  -- a pair was handed out
+  pub takes : (hint : Option ℕ) (next : ℕ) (new : Standings) → Passes S.task book old mid hint (Some next) → ForSome hint (λ p. p < length old.states) →
+      new.states ≡ slice_set mid.states next state.Flying → new.ready ≡ without mid.ready next →
+      MatchOption hint (TakesFirst (running_with S book old) (running_with S book new) (Some next)) (λ p. TakesHint (running_with S book old) (running_with S book new) p (Some next))
+  takes None next new p within = takes_some next new p
+  takes (Some hint) next new p within = takes_hint hint next new p (within hint refl)
+
+  -- a pair to hand out is one of the pairs, and none was taken from the table
+  pub next_within : (hint : Option ℕ) (next : ℕ) → Passes S.task book old mid hint (Some next) → next < length old.states
+  next_within None next p = slice_get_within old.states next state.Ready (first_was_ready S.task book old mid p.passed p.have p.listed next (sym p.first))
+  next_within (Some hint) next p = elim p.cases [
     | inl h ↦ subst (λ n. n < length old.states) (sym (same_Some next hint h.2)) (slice_get_within old.states hint state.Ready h.0)
     | inr rest ↦ elim rest [ inl h ↦ absurd (let e = h.2 in cc) | inr h ↦ absurd (let e = h.1 in cc) ]
   ]
 
-  pub over_long : (next : Option ℕ) → PassesOver S.task book old mid next → length mid.states ≡ length old.states
-  over_long next p = ap length p.have.states ∙ length-set_each old.states p.passed state.Joined
-
-  pub hint_long : (hint : ℕ) (next : Option ℕ) → PassesHint S.task book old mid hint next → length mid.states ≡ length old.states
-  hint_long hint next p = elim p.cases [
+  pub as_long : (hint next : Option ℕ) → Passes S.task book old mid hint next → length mid.states ≡ length old.states
+  as_long None next p = ap length p.have.states ∙ length-set_each old.states p.passed state.Joined
+  as_long (Some hint) next p = elim p.cases [
     | inl h ↦ ap (λ (t : Standings). length t.states) h.3
     | inr rest ↦ elim rest [
       | inl h ↦ ap length h.3 ∙ length-set_each old.states (hint ∷ []) state.Joined

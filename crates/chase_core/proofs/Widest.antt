@@ -1,21 +1,16 @@
 -- The greatest count of near names, one pair after another.
 use Rattle.std.proofs.Common.{List, [], ◌∷◌, ◌++◌, ℕ, Any, take, get_or, length, max, min, ◌≡◌, ◌<◌, ◌≤◌, ◌+◌, inl, inr, refl, sym, ◌∙◌, subst, arith}
 use Rattle.std.proofs.lemmas.Bool.{cases_lt}
-use Rattle.std.proofs.lemmas.List.{take_more, get_or_push, length_push, get_or_append_left}
+use Rattle.std.proofs.lemmas.List.{take_more, length_push, get_or_append_left}
 use Rattle.std.proofs.lemmas.List.Elements.{All-push, All-weaker}
+use Rattle.std.proofs.lemmas.List.Quantifiers.{Any-push}
 use Rattle.std.proofs.lemmas.Option.{slice_get_within, get_or_from_slice_get}
 use Rattle.chase_laws.specs.Core.{name_count, PairAt}
 use Rattle.list_pool.specs.Pool.{list_at}
 use Rattle.chase_core.specs.Setup.{Preparation, near_count, IsMost, IsWidest}
 
-pub most_none : (near : List (List ℕ)) → IsMost near [] 0
-most_none near = record { bounds = λ k d h. absurd (omega arith); reached = inl refl }
-
 Any-push_left : {X : Type 0} (P : X → Type 0) (xs : List X) (y : X) → Any P xs → Any P (xs ++ y ∷ [])
 Any-push_left P xs y a = (a.0, a.1, omega (arith, length_push xs y, a.2), get_or_append_left xs (y ∷ []) a.1 a.0 a.2 ∙ a.3, a.4)
-
-Any-push_right : {X : Type 0} (P : X → Type 0) (xs : List X) (y : X) → P y → Any P (xs ++ y ∷ [])
-Any-push_right P xs y h = (length xs, y, omega (arith, length_push xs y), get_or_push xs y y (length xs) refl, h)
 
 most_push : (near : List (List ℕ)) (pairs : List (ℕ × ℕ)) (p : ℕ × ℕ) (most : ℕ) → IsMost near pairs most → IsMost near (pairs ++ p ∷ []) (max most (near_count near p))
 most_push near pairs p most m = record {
@@ -26,7 +21,7 @@ most_push near pairs p most m = record {
       | inl none ↦ absurd (omega arith)
       | inr some ↦ (let e : max most (near_count near p) ≡ most = omega arith in rw e (inr (Any-push_left (λ q. near_count near q ≡ most) pairs p some)))
     ]
-    | inr more ↦ (let e : max most (near_count near p) ≡ near_count near p = omega arith in rw e (inr (Any-push_right (λ q. near_count near q ≡ near_count near p) pairs p refl)))
+    | inr more ↦ (let e : max most (near_count near p) ≡ near_count near p = omega arith in rw e (inr (Any-push (λ q. near_count near q ≡ near_count near p) pairs p refl)))
   ];
 }
 

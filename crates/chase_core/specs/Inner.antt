@@ -1,22 +1,17 @@
 -- What the types keep of their fields, and words of the proofs (this project's own).
-use Rattle.std.specs.Prelude.{List, ℕ, Some, Contains, length, slice_get, slice_set, slice_index, ◌≡◌, ◌<◌, ◌≤◌, ◌^◌, ◌↔◌}
+use Rattle.std.specs.Prelude.{List, ℕ, Contains, length, ◌≡◌, ◌<◌, ◌≤◌, ◌^◌, ◌↔◌}
 use Rattle.std.specs.List.Sorted.{IsStrictlyIncreasing}
 use Rattle.chase_laws.specs.declared.pair_state.PairState.{PairState}
-use Rattle.chase_laws.specs.declared.pair_state.PairState.TheVariants as state
 use Rattle.chase_laws.specs.Candidate.{AreAscending}
 use Rattle.chase_laws.specs.Core.{Task, IsTask, IsSound, name_count}
-use Rattle.list_pool.specs.Pool.{list_at, without}
-use Rattle.class_book.specs.Classes.{Classes}
+use Rattle.list_pool.specs.Pool.{list_at}
 use Rattle.near_lists.specs.Turning.{HasEnd}
 use Rattle.paired_search.specs.declared.key_range.KeyRange.{KeyRange}
 use Rattle.paired_search.specs.Plans.{ArePlans}
-use Rattle.chase_core.specs.declared.ticket.Settled.{Settled}
-use Rattle.chase_core.specs.declared.ticket.Settled.TheVariants as settled
-use Rattle.chase_core.specs.Table.{Standings, IsReadyList}
+use Rattle.chase_core.specs.Table.{IsReadyList}
 use Rattle.near_lists.specs.Neighbourhoods.{AreNearNames}
 use Rattle.chase_core.specs.Setup.{Preparation, AreRangesFor, IsWidest}
 use Rattle.chase_core.specs.Running.{Running, state_in, journal_room}
-use Rattle.chase_core.specs.Settling.{IsFirstOvertaken, GoesLast}
 
 -- what a table keeps: a pool with one list, which is the Ready list, and with a cell for each pair
 pub record AreStandings (states : List PairState) (lists : List (List ℕ)) (cells : ℕ) : Type 0 where
@@ -55,14 +50,3 @@ pub record IsKept (C : Running) (capacity : ℕ) : Type 0 where
   pub room : C.book.room ≡ journal_room C.setup.task
   pub within : length C.book.journal ≤ C.book.room
   pub aside : length C.setup.task.pairs ≤ capacity
-
--- a pair without a step by a view, where its ends are not joined: it is Missed where each label is the present one, and
--- else Ready
-abbrev pub SettlesMissed : Classes → Standings → Standings → List (ℕ × ℕ) → ℕ → Settled → Type 0
-SettlesMissed book old new view pair settled.Missed =
-    ((k n l : ℕ) → slice_get view k ≡ Some (n, l) → l ≡ slice_index book.labels n)
-    × (new.states ≡ slice_set old.states pair state.Missed) × (new.ready ≡ without old.ready pair)
-SettlesMissed book old new view pair (settled.Reopened node seen now) =
-    IsFirstOvertaken book.labels view node seen now × (new.states ≡ slice_set old.states pair state.Ready) × GoesLast old pair new
-SettlesMissed book old new view pair settled.Already = ⊥
-SettlesMissed book old new view pair (settled.Entered place) = ⊥

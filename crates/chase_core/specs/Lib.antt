@@ -12,4 +12,3 @@ pub mod Inner
 pub mod Kept
 pub mod Gathering
 pub mod Passing
-pub mod Shown

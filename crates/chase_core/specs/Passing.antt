@@ -1,5 +1,5 @@
 -- Pairs whose ends are joined already, passed over on the way to one to hand out (this project's own).
-use Rattle.std.specs.Prelude.{List, [], ◌∷◌, ◌++◌, ℕ, Option, Some, None, IfSome, All, slice_get, ◌≡◌, ◌⊎◌}
+use Rattle.std.specs.Prelude.{List, [], ◌∷◌, ◌++◌, ℕ, Option, Some, None, IfSome, MatchOption, All, slice_get, ◌≡◌, ◌⊎◌}
 use Rattle.chase_laws.specs.declared.pair_state.PairState.TheVariants as state
 use Rattle.chase_laws.specs.Core.{Task, Stands, EndsJoined, EndsApart, set_each}
 use Rattle.list_pool.specs.Pool.{without}
@@ -27,3 +27,7 @@ pub record PassesHint (T : Task) (book : Classes) (old new : Standings) (hint : 
       ⊎ ((Stands (state_of book old) hint state.Ready × EndsJoined T (state_of book old) hint × (next ≡ None)
       × (new.states ≡ set_each old.states (hint ∷ []) state.Joined) × (new.ready ≡ without old.ready hint))
       ⊎ (¬ (Stands (state_of book old) hint state.Ready) × (next ≡ None) × (new ≡ old)))
+
+-- a pair to hand out, by a hint or without
+abbrev pub Passes : Task → Classes → Standings → Standings → Option ℕ → Option ℕ → Type 0
+Passes T book old new hint next = MatchOption hint (PassesOver T book old new next) (λ p. PassesHint T book old new p next)

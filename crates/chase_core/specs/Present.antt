@@ -1,8 +1,7 @@
 -- What is the same by the present labels, and a pair that is settled by them (this project's own).
-use Rattle.std.specs.Prelude.{List, ℕ, Bool, IsTrue, slice_get, ◌==◌, ◌||◌}
-use Rattle.chase_laws.specs.Valuation.{Matches}
+use Rattle.std.specs.Prelude.{List, ℕ, Bool, slice_get, ◌==◌, ◌||◌}
 use Rattle.chase_laws.specs.View.{both_equal}
-use Rattle.chase_laws.specs.Core.{Task, PairAt, ListsNear, IsPresent}
+use Rattle.chase_laws.specs.Core.{ListsNear, IsPresent}
 use Rattle.chase_core.specs.declared.ticket.Ticket.{Ticket}
 use Rattle.chase_core.specs.declared.ticket.Outcome.{Outcome}
 use Rattle.chase_core.specs.declared.ticket.Settled.{Settled}
@@ -20,14 +19,3 @@ pub record SettlesPresent (old : Running) (ticket : Ticket) (answer : Settled) (
   pub present : IsPresent (state_in old) view
   pub found : Outcome
   pub settles : Settles old ticket view found answer new
-
--- no key has two valuations at the ends of a pair that coincide up to what is the same
-pub record IsUnmatchedBy (T : Task) (same : ℕ → ℕ → Bool) (pair : ℕ) : Type 0 where
-  pub a : ℕ
-  pub b : ℕ
-  pub ends : PairAt T pair a b
-  pub none : ¬ (Matches T.graph T.patterns same a b)
-
--- what has one label is the same
-abbrev pub CoversLabels : List ℕ → (ℕ → ℕ → Bool) → Type 0
-CoversLabels labels same = (m n : ℕ) → IsTrue (same_by_labels labels m n) → IsTrue (same m n)

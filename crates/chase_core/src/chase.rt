@@ -1,37 +1,32 @@
 //! `Chase`: which names are the same so far, where each pair stands, and the calls that go on from there.
 
-ghost use Rattle.std.specs.Prelude.{◌≡◌, ◌≢◌, ◌<◌, ◌≤◌, ◌++◌, ◌↔◌, ◌⊎◌, List, ℕ, IfOk, IfSome, IfNone, IsFalse, IsTrue, OnSome, MatchOption, Some, length, slice_get};
+ghost use Rattle.std.specs.Prelude.{◌≡◌, ◌≢◌, ◌<◌, ◌≤◌, ◌++◌, ◌↔◌, List, ℕ, IfOk, IfSome, IfNone, OnSome, MatchOption, Some, length, slice_get};
 ghost use Rattle.std.specs.Option.{ForSome};
 ghost use Rattle.std.specs.List.{range_with_len};
 ghost use Rattle.chase_laws.specs.declared.entry.Entry.{Entry};
 ghost use Rattle.chase_laws.specs.declared.pair_state.PairState.TheVariants as state;
 ghost use Rattle.chase_laws.specs.Joined.{Joined};
 ghost use Rattle.chase_laws.specs.Core.{PairAt, ListsNear, IsPresent, Event, Happens, Run, IsFinished, opening};
-ghost use Rattle.chase_laws.specs.Core.Event.{Already as AlreadyJoined, Miss, Recall};
-ghost use Rattle.list_pool.specs.Pool.{without};
-ghost use Rattle.chase_core.specs.declared.ticket.Outcome.{Outcome};
+ghost use Rattle.chase_laws.specs.Core.Event.{Recall};
 ghost use Rattle.chase_core.specs.declared.ticket.Outcome.TheVariants.{Missed};
 ghost use Rattle.chase_core.specs.declared.ticket.Settled.TheVariants.{Already, Reopened};
 ghost use Rattle.chase_core.specs.Running.{state_in, IsRunning};
 ghost use Rattle.chase_core.specs.Taking.{TakesFirst, TakesHint, pair_of};
 ghost use Rattle.chase_core.specs.Holding.{IsHeld};
 ghost use Rattle.chase_core.specs.Settling.{IsRightOutcome, RiseInOrder, Settles, Notes};
-ghost use Rattle.chase_core.specs.Present.{SettlesPresent, IsUnmatchedBy, CoversLabels};
+ghost use Rattle.chase_core.specs.Present.{SettlesPresent};
 
 use crate::recall::recall_parts;
-use crate::settle::{
-    is_present, settle_joined_parts, settle_missed_parts, settle_parts, settle_present,
-    settle_unmatched_parts,
-};
+use crate::settle::{settle_compared, settle_found, settle_missed, settle_present};
+use crate::show::show_near;
 use crate::table::PairTable;
-use crate::take::{take_parts, take_unseen_parts, ticket_of};
-use crate::tried::finds_nothing;
+use crate::take::take_parts;
 use crate::{Matched, Outcome, Settled, Setup, Ticket, Woken};
 use chase_laws::PairState;
 use chase_laws::core_law::law_core;
 use class_book::Book;
 use gk_base::NoMemory;
-use paired_search::{Sameness, View};
+use paired_search::View;
 use std::alloc::Global;
 use std::marker::Model;
 
@@ -131,7 +126,9 @@ impl<'a> Chase<'a> {
         ensures book { self.new.book ≡ self.old.book }
     {
         law_core();
-        take_parts(self.setup, &self.book, &mut self.table, hint, view)
+        let ticket = self.take_unseen(hint)?;
+        show_near(self.setup, &self.book, ticket, view);
+        Some(ticket)
     }
 
     /// Settles a pair by what a search with its view came to. What was found has to be a step from the present journal,
@@ -154,16 +151,20 @@ impl<'a> Chase<'a> {
         ensures grows { (more : List Entry) × (self.new.book.journal ≡ self.old.book.journal ++ more) }
     {
         law_core();
-        settle_parts(
-            self.setup,
-            &mut self.book,
-            &mut self.table,
-            &mut self.aside,
-            ticket,
-            view,
-            outcome,
-            woken,
-        )
+        match outcome {
+            Outcome::Missed => {
+                settle_compared(self.setup, &self.book, &mut self.table, ticket, view, woken)
+            }
+            Outcome::Found(finding) => settle_found(
+                self.setup,
+                &mut self.book,
+                &mut self.table,
+                &mut self.aside,
+                ticket,
+                finding,
+                woken,
+            ),
+        }
     }
 
     /// Settles a pair of which a search found nothing, by one who knows that the view has the present labels: nothing is
@@ -183,29 +184,7 @@ impl<'a> Chase<'a> {
         ensures never_again { (node seen now : ℕ) → result ≢ Reopened node seen now }
     {
         law_core();
-        settle_missed_parts(self.setup, &self.book, &mut self.table, ticket, view, woken)
-    }
-
-    /// Settles a pair that was handed out where its ends are joined by now, with no search, and answers whether they are. Where they
-    /// are not, the chase stays as it was.
-    pub fn settle_joined(&mut self, ticket: Ticket) -> bool
-        requires { PairAt self.old.setup.task ticket.pair ticket.a ticket.b }
-        ensures settles { IsTrue result → (view : List (ℕ × ℕ)) (found : Outcome) → Settles self.old ticket view found Already self.new }
-        ensures joined { IsTrue result ↔ Joined self.old.book.journal ticket.a ticket.b }
-        ensures unchanged { IsFalse result → self.new ≡ self.old }
-        ensures setup { self.new.setup ≡ self.old.setup }
-        ensures book { self.new.book ≡ self.old.book }
-    {
-        law_core();
-        settle_joined_parts(self.setup, &self.book, &mut self.table, ticket)
-    }
-
-    /// Whether a view of what is near to a pair's ends has the present labels.
-    pub fn is_present(&self, ticket: Ticket, view: &View) -> bool
-        requires { ListsNear self.now.setup.task ticket.a ticket.b view.now.pairs }
-        ensures { IsTrue result ↔ IsPresent (state_in self.now) view.now.pairs }
-    {
-        is_present(self.setup, &self.book, ticket, view)
+        settle_missed(self.setup, &self.book, &mut self.table, ticket, view, woken)
     }
 
     /// Gives all pairs back that are handed out: each Flying pair becomes Ready, in ascending order at the end of the
@@ -233,12 +212,13 @@ impl<'a> Chase<'a> {
         ensures woken_room { woken.new.room ≡ woken.old.room }
     {
         law_core();
-        self.holds();
+        // What holds of every chase.
+        let _ = self.book();
         while let Some(ticket) = self.take_unseen(None) {
             self.settle_at_once(ticket, woken);
-            self.holds();
+            let _ = self.book();
         }
-        self.holds();
+        let _ = self.book();
     }
 
     /// Hands out the pair that `take` does, and shows nothing: for one who has the chase alone, and searches by the present
@@ -253,7 +233,7 @@ impl<'a> Chase<'a> {
         ensures book { self.new.book ≡ self.old.book }
     {
         law_core();
-        take_unseen_parts(self.setup, &self.book, &mut self.table, hint)
+        take_parts(self.setup, &self.book, &mut self.table, hint)
     }
 
     /// Searches for a pair whose ends are not joined by the present labels, and settles it.
@@ -277,29 +257,6 @@ impl<'a> Chase<'a> {
         )
     }
 
-    /// Whether a search for a pair finds nothing by what may be the same. It changes nothing, so several threads may ask at once.
-    pub fn is_unmatched<S: Sameness>(&self, pair: u32, may_be: &S) -> bool
-        requires { pair < length self.now.setup.task.pairs }
-        ensures { IsTrue result ↔ IsUnmatchedBy self.now.setup.task (S.are_same may_be.now) pair }
-    {
-        finds_nothing(self.setup, &ticket_of(self.setup, pair), may_be)
-    }
-
-    /// Settles a pair for which a search found nothing by what may be the same, where that is all that is the same by the
-    /// present labels, or more: as one that was searched by these, or whose ends are joined already.
-    pub fn settle_unmatched<S: Sameness>(&mut self, pair: u32, may_be: &S)
-        requires unmatched { IsUnmatchedBy self.old.setup.task (S.are_same may_be.now) pair }
-        requires covers { CoversLabels self.old.book.labels (S.are_same may_be.now) }
-        ensures event { Happens self.old.setup.task (state_in self.old) (AlreadyJoined pair) (state_in self.new)
-            ⊎ ((view : List (ℕ × ℕ)) × Happens self.old.setup.task (state_in self.old) (Miss pair view) (state_in self.new)) }
-        ensures ready { self.new.table.ready ≡ without self.old.table.ready pair }
-        ensures setup { self.new.setup ≡ self.old.setup }
-        ensures book { self.new.book ≡ self.old.book }
-    {
-        law_core();
-        settle_unmatched_parts(self.setup, &self.book, &mut self.table, pair, may_be);
-    }
-
     /// The labels and the journal. It takes no memory.
     pub fn finish(self) -> Matched
         ensures labels { result.labels.items ≡ self.entry.book.labels }
@@ -310,13 +267,5 @@ impl<'a> Chase<'a> {
         table.listed();
         let (labels, journal) = book.into_parts();
         Matched { labels, journal }
-    }
-
-    /// Says for proofs what holds of every chase. It does nothing.
-    fn holds(&self)
-        ensures running { IsRunning self.now }
-    {
-        self.table.listed();
-        let _ = &self.book;
     }
 }

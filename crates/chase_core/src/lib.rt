@@ -14,7 +14,7 @@
 //! - `held_law`: the law of pairs that are handed out
 //! - `table`: where the pairs stand, and the Ready list
 //! - `take`: which pair is handed out
-//! - `show`: two lists of names, shown with their labels
+//! - `show`: what is near to a pair's ends, shown with its labels
 //! - `present`: what is the same by the present labels
 //! - `settle`: what becomes of a pair that was searched
 //! - `gather`: the pairs whose ends an entry brings together, set aside

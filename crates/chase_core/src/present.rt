@@ -45,11 +45,12 @@ impl<'a> PresentLabels<'a> {
             None
         }
     }
+}
 
-    /// Whether two names are the same by the labels.
-    fn are_equal(&self, m: u32, n: u32) -> bool
-        ensures { result ≡ same_by_labels self.now m n }
-    {
+impl<'a> Sameness for PresentLabels<'a> {
+    ghost are_same = { same_by_labels };
+
+    fn same(&self, m: u32, n: u32) -> bool {
         if m == n {
             return true;
         }
@@ -57,13 +58,5 @@ impl<'a> PresentLabels<'a> {
             (Some(k), Some(l)) => k == l,
             _ => false,
         }
-    }
-}
-
-impl<'a> Sameness for PresentLabels<'a> {
-    ghost are_same = { same_by_labels };
-
-    fn same(&self, m: u32, n: u32) -> bool {
-        self.are_equal(m, n)
     }
 }

@@ -1,32 +1,26 @@
-//! Settles a pair that was searched: enters what was found, and keeps that nothing was found while that is still known.
+//! Settles a pair that was searched: enters what was found, and keeps that nothing was found while that is still known. It
+//! takes a chase's fields and not the chase: the pair's mark, the entry and the pairs that it wakes are one event, and within
+//! it what every chase keeps does not hold.
 
-ghost use Rattle.std.specs.Prelude.{◌≡◌, ◌<◌, ◌≤◌, ◌↔◌, ◌⊎◌, [], List, ℕ, IfSome, IfNone, IsFalse, IsTrue, Some, length, slice_get, slice_index, take, vec_capacity};
-ghost use Rattle.chase_laws.specs.declared.pair_state.PairState.TheVariants as state;
+ghost use Rattle.std.specs.Prelude.{◌≡◌, ◌≤◌, List, ℕ, IfSome, IfNone, Some, length, slice_get, slice_index, vec_capacity};
 ghost use Rattle.chase_laws.specs.Joined.{Joined};
 ghost use Rattle.chase_laws.specs.Chase.{IsStep};
-ghost use Rattle.chase_laws.specs.View.{label_in};
-ghost use Rattle.chase_laws.specs.Core.{IsSound, name_count, PairAt, ListsNear, IsPresent, Happens};
-ghost use Rattle.chase_laws.specs.Core.Event.{Enter, Already, Miss};
+ghost use Rattle.chase_laws.specs.Core.{IsSound, name_count, PairAt, ListsNear, IsPresent};
 ghost use Rattle.paired_search.specs.Held.{Ascends};
-ghost use Rattle.list_pool.specs.Pool.{without};
-ghost use Rattle.chase_core.specs.declared.ticket.Outcome.{Outcome};
-ghost use Rattle.chase_core.specs.declared.ticket.Outcome.TheVariants.{Missed};
-ghost use Rattle.chase_core.specs.declared.ticket.Settled.TheVariants as settled;
+ghost use Rattle.chase_core.specs.declared.ticket.Outcome.TheVariants.{Found, Missed};
 ghost use Rattle.chase_core.specs.Running.{state_of, running_with, journal_room};
-ghost use Rattle.chase_core.specs.Settling.{entry_of, IsRightOutcome, IsFirstOvertaken, RiseInOrder, Settles, Notes};
-ghost use Rattle.chase_core.specs.Inner.{SettlesMissed};
-ghost use Rattle.chase_core.specs.Present.{SettlesPresent, IsUnmatchedBy, CoversLabels};
+ghost use Rattle.chase_core.specs.Settling.{entry_of, IsRightOutcome, IsFirstOvertaken, Settles, Notes};
+ghost use Rattle.chase_core.specs.Present.{SettlesPresent};
 
 use crate::gather::gather_across;
 use crate::table::PairTable;
-use crate::take::ticket_of;
 use crate::tried::find_present;
 use crate::wake::wake_each;
-use crate::{Outcome, Settled, Setup, Ticket, Woken};
+use crate::{Settled, Setup, Ticket, Woken};
 use chase_laws::core_law::law_core;
 use chase_laws::{Entry, PairState};
 use class_book::Book;
-use paired_search::{Finding, Sameness, View};
+use paired_search::{Finding, View};
 
 /// The first name of a pair's view whose label is not the present one, with the label in the view and the present one.
 fn overtaken(setup: &Setup, book: &Book, ticket: Ticket, view: &View) -> Option<(u32, u32, u32)>
@@ -49,82 +43,75 @@ fn overtaken(setup: &Setup, book: &Book, ticket: Ticket, view: &View) -> Option<
     None
 }
 
-/// Whether a pair's view has the present labels.
-pub fn is_present(setup: &Setup, book: &Book, ticket: Ticket, view: &View) -> bool
-    requires labels { length book.now.labels ≡ name_count setup.now.task }
-    requires view { ListsNear setup.now.task ticket.a ticket.b view.now.pairs }
-    ensures { IsTrue result ↔ ((n l : ℕ) → label_in view.now.pairs n ≡ Some l → l ≡ slice_index book.now.labels n) }
-{
-    overtaken(setup, book, ticket, view).is_none()
-}
-
-/// The identification of a pair by what was found.
-fn entry_of(ticket: Ticket, finding: Finding) -> Entry
-    ensures { result ≡ entry_of ticket finding }
-{
-    Entry {
-        a: ticket.a,
-        b: ticket.b,
-        key: finding.key,
-        left: finding.left,
-        right: finding.right,
-    }
-}
-
-/// Enters what was found for a pair whose ends are not joined, and makes the Missed pairs Ready whose ends it brings
-/// together. It answers the place of the identification in the journal.
-pub fn enter_found(
+/// Settles a pair for which something was found: where its ends are not joined, it enters that, and makes the Missed pairs
+/// Ready whose ends it brings together.
+pub fn settle_found(
     setup: &Setup,
     book: &mut Book,
     table: &mut PairTable,
     aside: &mut Vec<u32>,
-    pair: u32,
-    entry: Entry,
+    ticket: Ticket,
+    finding: Finding,
     woken: &mut Woken,
-) -> u32
+) -> Settled
     requires sound { IsSound setup.now.task (state_of book.old table.old) }
-    requires ends { PairAt setup.now.task pair entry.a entry.b }
-    requires apart { ¬ (Joined book.old.journal entry.a entry.b) }
-    requires step { IsStep setup.now.task.graph setup.now.task.patterns book.old.journal entry }
+    requires ends { PairAt setup.now.task ticket.pair ticket.a ticket.b }
+    requires step { IsStep setup.now.task.graph setup.now.task.patterns book.old.journal (entry_of ticket finding) }
     requires room { book.old.room ≡ journal_room setup.now.task }
     requires aside { length setup.now.task.pairs ≤ vec_capacity aside.old }
-    requires empty { woken.old.list ≡ [] }
-    ensures place { result ≡ length book.old.journal }
-    ensures event { Happens setup.now.task (state_of book.old table.old) (Enter pair entry) (state_of book.new table.new) }
-    ensures woken { (list : List ℕ) × RiseInOrder state.Missed table.old.states (without table.old.ready pair) table.new list
-        × (woken.new.list ≡ take woken.old.room list) }
+    ensures settles { (view : List (ℕ × ℕ)) → Settles (running_with setup.now book.old table.old) ticket view (Found finding) result (running_with setup.now book.new table.new) }
+    ensures woken { Notes (running_with setup.now book.old table.old) ticket.pair result (running_with setup.now book.new table.new) woken.old.room woken.new.list }
     ensures room { book.new.room ≡ book.old.room }
     ensures aside { vec_capacity aside.new ≡ vec_capacity aside.old }
     ensures woken_room { woken.new.room ≡ woken.old.room }
 {
     law_core();
     setup.prepared();
-    table.mark(pair, PairState::Joined);
+    woken.clear();
+    table.mark(ticket.pair, PairState::Joined);
+    if book.same(ticket.a, ticket.b) {
+        return Settled::Already;
+    }
     // Before the entry labels tell its two classes. Two passes: the pairs are gathered as their ends look at these, and
     // made Ready afterwards, for they come in the names' order and have to wait in their own. A pair that is set aside is
     // no longer Missed, so it is gathered once however many of the names it looks at.
     aside.clear();
-    gather_across(setup, book, table, entry.a, entry.b, aside);
-    let place = book.enter(entry);
+    gather_across(setup, book, table, ticket.a, ticket.b, aside);
+    let place = book.enter(Entry {
+        a: ticket.a,
+        b: ticket.b,
+        key: finding.key,
+        left: finding.left,
+        right: finding.right,
+    });
     aside.sort_unstable();
     wake_each(table, aside, woken);
-    place
+    Settled::Entered(place)
 }
 
 /// Settles a pair that was searched and not found: its view is compared with the present labels.
-fn settle_compared(
+pub fn settle_compared(
     setup: &Setup,
     book: &Book,
     table: &mut PairTable,
     ticket: Ticket,
     view: &View,
+    woken: &mut Woken,
 ) -> Settled
-    requires labels { length book.now.labels ≡ name_count setup.now.task }
-    requires pair { ticket.pair < length table.old.states }
+    requires sound { IsSound setup.now.task (state_of book.now table.old) }
+    requires ends { PairAt setup.now.task ticket.pair ticket.a ticket.b }
     requires view { ListsNear setup.now.task ticket.a ticket.b view.now.pairs }
-    ensures settles { SettlesMissed book.now table.old table.new view.now.pairs ticket.pair result }
-    ensures ascends { Ascends view.now.pairs }
+    requires outcome { IsRightOutcome setup.now.task (state_of book.now table.old) ticket view.now.pairs Missed }
+    ensures settles { Settles (running_with setup.now book.now table.old) ticket view.now.pairs Missed result (running_with setup.now book.now table.new) }
+    ensures woken { Notes (running_with setup.now book.now table.old) ticket.pair result (running_with setup.now book.now table.new) woken.old.room woken.new.list }
+    ensures woken_room { woken.new.room ≡ woken.old.room }
 {
+    setup.prepared();
+    woken.clear();
+    if book.same(ticket.a, ticket.b) {
+        table.mark(ticket.pair, PairState::Joined);
+        return Settled::Already;
+    }
     match overtaken(setup, book, ticket, view) {
         Some((node, seen, now)) => {
             table.make_ready(ticket.pair);
@@ -137,103 +124,10 @@ fn settle_compared(
     }
 }
 
-/// Settles a pair whose ends are joined already, or for which something was found. Where neither is so, it answers None and
-/// leaves all as it was.
-fn settle_unless_missed(
-    setup: &Setup,
-    book: &mut Book,
-    table: &mut PairTable,
-    aside: &mut Vec<u32>,
-    ticket: Ticket,
-    outcome: Outcome,
-    woken: &mut Woken,
-) -> Option<Settled>
-    requires sound { IsSound setup.now.task (state_of book.old table.old) }
-    requires ends { PairAt setup.now.task ticket.pair ticket.a ticket.b }
-    requires outcome { (view : List (ℕ × ℕ)) × IsRightOutcome setup.now.task (state_of book.old table.old) ticket view outcome }
-    requires room { book.old.room ≡ journal_room setup.now.task }
-    requires aside { length setup.now.task.pairs ≤ vec_capacity aside.old }
-    ensures settles { (view : List (ℕ × ℕ)) → IfSome result (λ s. Settles (running_with setup.now book.old table.old) ticket view outcome s (running_with setup.now book.new table.new)) }
-    ensures woken { IfSome result (λ s. Notes (running_with setup.now book.old table.old) ticket.pair s (running_with setup.now book.new table.new) woken.old.room woken.new.list) }
-    ensures missed { IfNone result ((outcome ≡ Missed) × ¬ (Joined book.old.journal ticket.a ticket.b)) }
-    ensures unchanged { IfNone result ((book.new ≡ book.old) × (table.new ≡ table.old) × (woken.new.list ≡ [])) }
-    ensures room { book.new.room ≡ book.old.room }
-    ensures aside { vec_capacity aside.new ≡ vec_capacity aside.old }
-    ensures woken_room { woken.new.room ≡ woken.old.room }
-{
-    setup.prepared();
-    woken.clear();
-    if book.same(ticket.a, ticket.b) {
-        table.mark(ticket.pair, PairState::Joined);
-        return Some(Settled::Already);
-    }
-    match outcome {
-        Outcome::Missed => None,
-        Outcome::Found(finding) => {
-            let entry = entry_of(ticket, finding);
-            let place = enter_found(setup, book, table, aside, ticket.pair, entry, woken);
-            Some(Settled::Entered(place))
-        }
-    }
-}
-
-/// Settles a pair whose ends are joined by now, and answers whether they are. Where they are not, all stays as it was. It takes a
-/// chase's fields as `settle_missed_parts` does.
-pub fn settle_joined_parts(
-    setup: &Setup,
-    book: &Book,
-    table: &mut PairTable,
-    ticket: Ticket,
-) -> bool
-    requires sound { IsSound setup.now.task (state_of book.now table.old) }
-    requires ends { PairAt setup.now.task ticket.pair ticket.a ticket.b }
-    ensures settles { IsTrue result → (view : List (ℕ × ℕ)) (found : Outcome) → Settles (running_with setup.now book.now table.old) ticket view found settled.Already (running_with setup.now book.now table.new) }
-    ensures joined { IsTrue result ↔ Joined book.now.journal ticket.a ticket.b }
-    ensures unchanged { IsFalse result → table.new ≡ table.old }
-{
-    setup.prepared();
-    if !book.same(ticket.a, ticket.b) {
-        return false;
-    }
-    table.mark(ticket.pair, PairState::Joined);
-    true
-}
-
-/// Settles a pair that was searched. It takes a chase's fields and not the chase: the pair's mark, the entry and the pairs
-/// that it wakes are one event, and within it what every chase keeps does not hold.
-pub fn settle_parts(
-    setup: &Setup,
-    book: &mut Book,
-    table: &mut PairTable,
-    aside: &mut Vec<u32>,
-    ticket: Ticket,
-    view: &View,
-    outcome: Outcome,
-    woken: &mut Woken,
-) -> Settled
-    requires sound { IsSound setup.now.task (state_of book.old table.old) }
-    requires ends { PairAt setup.now.task ticket.pair ticket.a ticket.b }
-    requires view { ListsNear setup.now.task ticket.a ticket.b view.now.pairs }
-    requires outcome { IsRightOutcome setup.now.task (state_of book.old table.old) ticket view.now.pairs outcome }
-    requires room { book.old.room ≡ journal_room setup.now.task }
-    requires aside { length setup.now.task.pairs ≤ vec_capacity aside.old }
-    ensures settles { Settles (running_with setup.now book.old table.old) ticket view.now.pairs outcome result (running_with setup.now book.new table.new) }
-    ensures woken { Notes (running_with setup.now book.old table.old) ticket.pair result (running_with setup.now book.new table.new) woken.old.room woken.new.list }
-    ensures room { book.new.room ≡ book.old.room }
-    ensures aside { vec_capacity aside.new ≡ vec_capacity aside.old }
-    ensures woken_room { woken.new.room ≡ woken.old.room }
-{
-    setup.prepared();
-    match settle_unless_missed(setup, book, table, aside, ticket, outcome, woken) {
-        Some(settled) => settled,
-        None => settle_compared(setup, book, table, ticket, view),
-    }
-}
-
-/// Settles a pair of which a search found nothing, where the view has the present labels: nothing is compared. It takes a
-/// chase's fields as `settle_parts` does, so that the chase lends its table alone for the pair's mark.
+/// Settles a pair of which a search found nothing, where the view has the present labels: nothing is compared. The chase
+/// lends its table alone for the pair's mark.
 #[inline]
-pub fn settle_missed_parts(
+pub fn settle_missed(
     setup: &Setup,
     book: &Book,
     table: &mut PairTable,
@@ -285,43 +179,12 @@ pub fn settle_present(
 {
     law_core();
     setup.prepared();
-    woken.clear();
     match find_present(setup, book, ticket) {
-        Some(finding) => {
-            let entry = entry_of(ticket, finding);
-            let place = enter_found(setup, book, table, aside, ticket.pair, entry, woken);
-            Settled::Entered(place)
-        }
+        Some(finding) => settle_found(setup, book, table, aside, ticket, finding, woken),
         None => {
+            woken.clear();
             table.mark(ticket.pair, PairState::Missed);
             Settled::Missed
         }
     }
-}
-
-/// Settles a pair for which a search found nothing by what may be the same, where that is all that is the same by the present
-/// labels, or more.
-pub fn settle_unmatched_parts<S: Sameness>(
-    setup: &Setup,
-    book: &Book,
-    table: &mut PairTable,
-    pair: u32,
-    may_be: &S,
-)
-    requires sound { IsSound setup.now.task (state_of book.now table.old) }
-    requires unmatched { IsUnmatchedBy setup.now.task (S.are_same may_be.now) pair }
-    requires covers { CoversLabels book.now.labels (S.are_same may_be.now) }
-    ensures event { Happens setup.now.task (state_of book.now table.old) (Already pair) (state_of book.now table.new)
-        ⊎ ((view : List (ℕ × ℕ)) × Happens setup.now.task (state_of book.now table.old) (Miss pair view) (state_of book.now table.new)) }
-    ensures ready { table.new.ready ≡ without table.old.ready pair }
-{
-    setup.prepared();
-    // What may be the same is only named in the contract.
-    let _ = may_be;
-    let ticket = ticket_of(setup, pair);
-    if book.same(ticket.a, ticket.b) {
-        table.mark(pair, PairState::Joined);
-        return;
-    }
-    table.mark(pair, PairState::Missed);
 }

@@ -1,6 +1,6 @@
 //! Searches for a pair that was handed out.
 
-ghost use Rattle.std.specs.Prelude.{◌≡◌, ◌↔◌, IsTrue, IfSome, IfNone, Some, length, slice_get};
+ghost use Rattle.std.specs.Prelude.{◌≡◌, IfSome, IfNone, Some, length, slice_get};
 ghost use Rattle.chase_laws.specs.Shape.{Shape};
 ghost use Rattle.chase_laws.specs.Valuation.{IsMatch, Matches};
 ghost use Rattle.chase_laws.specs.Core.{name_count};
@@ -49,11 +49,4 @@ pub fn find_present(setup: &Setup, book: &Book, ticket: Ticket) -> Option<Findin
 {
     let labels = PresentLabels::new(book, setup.graph().names());
     search_for(setup, &ticket, &labels)
-}
-
-/// Whether a search finds nothing for a pair by what may be the same.
-pub fn finds_nothing<S: Sameness>(setup: &Setup, ticket: &Ticket, may_be: &S) -> bool
-    ensures { IsTrue result ↔ ¬ (Matches setup.now.task.graph setup.now.task.patterns (S.are_same may_be.now) ticket.now.a ticket.now.b) }
-{
-    search_for(setup, ticket, may_be).is_none()
 }

@@ -1,5 +1,5 @@
 -- The labels of a class, written member by member.
-use Rattle.std.proofs.Common.{List, [], ◌∷◌, ◌++◌, ℕ, Contains, take, get_or, set, length, ◌≡◌, ◌≢◌, ◌<◌, ◌+◌, inl, inr, ◌∙◌, refl, sym, ap, subst, arith, length-set, get_or-set_same, get_or-set_other}
+use Rattle.std.proofs.Common.{List, [], ◌∷◌, ◌++◌, ℕ, Contains, take, get_or, set, length, ◌≡◌, ◌≢◌, ◌<◌, ◌+◌, inl, inr, ◌∙◌, sym, ap, subst, arith, length-set, get_or-set_same, get_or-set_other}
 use Rattle.std.proofs.lemmas.List.{take_all, take_more}
 use Rattle.std.proofs.lemmas.List.Elements.{Contains-push, Contains-push_cases, Contains-append_left, All-get_or}
 use mathlib.Core.Logic.{dite}
@@ -12,9 +12,6 @@ pub record WritesMembers (before labels members : List ℕ) (done : ℕ) (after 
   pub wide : length after ≡ length before
   pub written : (n : ℕ) → Contains (take done members) n → get_or after n 0 ≡ get_or labels n 0
   pub others : (n : ℕ) → ¬ (Contains (take done members) n) → get_or after n 0 ≡ get_or before n 0
-
-pub none_written : (before labels members : List ℕ) → WritesMembers before labels members 0 before
-none_written before labels members = record { wide = refl; written = λ n h. absurd (omega (arith, h.1)); others = λ n h. refl }
 
 module _ (before labels members : List ℕ) (done member : ℕ) (after : List ℕ) (w : WritesMembers before labels members done after)
     (within : done < length members) (here : get_or members done 0 ≡ member) (inside : member < length after) where

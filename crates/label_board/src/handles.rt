@@ -3,7 +3,6 @@
 ghost use Rattle.std.specs.Prelude.{◌≡◌};
 
 use crate::knowledge::{About, Knowledge, PostedLabels};
-use crate::steps::COUNT;
 use atomic_table::{Seat, Table};
 use chase_laws::Entry;
 use std::alloc::Global;
@@ -35,12 +34,6 @@ impl Board {
         ensures { result ≡ self.now.names }
     {
         self.names
-    }
-
-    /// How many entries seem to be posted. Nothing is proved of the answer: it is for one who has to choose whether to look
-    /// again.
-    pub fn posted_count(&self) -> u64 {
-        self.table.shared.peek(COUNT)
     }
 }
 

@@ -15,7 +15,7 @@ pub(crate) type Words = Shared<Entry, Knowledge, About, PostedLabels>;
 pub(crate) type Place = Seat<Entry, Knowledge>;
 
 /// The word that counts the entries. Behind it stands the word of each name.
-pub(crate) const COUNT: usize = 0;
+const COUNT: usize = 0;
 
 /// Counts an entry up, as the last one posted. `count` is how many were posted before. A store can't announce the entry,
 /// so it is a compare and exchange, which finds the count as it is: the scribe alone writes it.

@@ -3,7 +3,7 @@ use Rattle.std.proofs.Common.{ℕ, ◌≡◌, Contains, take, get_or, subst, sym
 use Rattle.std.proofs.lemmas.List.Elements.{Contains-get_or}
 use Rattle.chase_core.specs.Gathering.{LooksFrom}
 use Rattle.chase_core.proofs.Members.{Contains-nil}
-use Rattle.chase_core.proofs.Ends.{end_of}
+use Rattle.chase_core.proofs.Across.{end_of}
 use Rattle.chase_core.proofs.Aside.{aside_none, aside_same, aside_more}
 use Rattle.chase_core.proofs.gather.gather_pairs.Goals as goal
 

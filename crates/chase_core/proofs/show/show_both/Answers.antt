@@ -21,8 +21,5 @@ loop-i-preserved c =
       room = c.push.ensures.room ∙ v.room;
     }
 
-pub returns-clause-shown : goal.returns-clause-shown
-returns-clause-shown c = record {
-  listed = walked_all c.args.first.now c.loop-i.i c.args.second.now c.loop-i.j c.loop-i.view.pairs c.loop-i.invariant.walked (omega arith) (omega arith);
-  present = c.loop-i.invariant.present;
-}
+pub returns-clause-listed : goal.returns-clause-listed
+returns-clause-listed c = walked_all c.args.first.now c.loop-i.i c.args.second.now c.loop-i.j c.loop-i.view.pairs c.loop-i.invariant.walked (omega arith) (omega arith)

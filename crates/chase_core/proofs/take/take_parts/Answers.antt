@@ -1,63 +1,29 @@
--- The two ways to a pair.
-use Rattle.std.proofs.Common.{ℕ, Option, Some, ◌≡◌, ◌<◌, length, sym, subst, ◌∙◌}
+-- The pair is handed out.
+use Rattle.std.proofs.Common.{◌<◌, sym, subst}
 use Rattle.std.specs.Option.{ForSome}
-use Rattle.chase_core.specs.Passing.{PassesOver, PassesHint}
-use Rattle.chase_core.proofs.Taken.{takes_none, takes_some, takes_no_hint, takes_hint, next_within, hint_within, over_long, hint_long}
+use Rattle.chase_core.proofs.Taken.{takes, takes_not, next_within, as_long}
 use Rattle.chase_core.proofs.take.take_parts.Goals as goal
-use Rattle.chase_core.proofs.take.take_parts.Goals.{in-None, in-Some}
 
-pub hand_out-requires-clause-states : goal.hand_out-requires-clause-states
-hand_out-requires-clause-states c =
-    let S = c.args.setup.now in
-    let book = c.args.book.now in
-    let old = c.args.table.now in
-    elim c.match-hint.branch [
-      | in-None w ↦ rw w.table-is (over_long S book old w.pass_over-next.new.table c.listed.ensures w.pass_over-next.result w.pass_over-next.ensures ∙ c.requires.states)
-      | in-Some w ↦ rw w.table-is (hint_long S book old w.pass_hint-next.new.table c.listed.ensures w.in-Some.pair w.pass_hint-next.result w.pass_hint-next.ensures ∙ c.requires.states)
-    ]
-
-pub hand_out-requires-clause-pair : goal.hand_out-requires-clause-pair
-hand_out-requires-clause-pair c =
-    let S = c.args.setup.now in
-    let book = c.args.book.now in
-    let old = c.args.table.now in
+pub ticket_of-ticket-requires : goal.ticket_of-ticket-requires
+ticket_of-ticket-requires c =
     let p = c.in_ok-pair.pair in
-    subst (λ n. p < n) c.requires.states (elim c.match-hint.branch [
-      | in-None w ↦ next_within S book old w.pass_over-next.new.table c.listed.ensures p
-          (subst (PassesOver S.task book old w.pass_over-next.new.table) (sym w.next-is ∙ c.in_ok-pair.was) w.pass_over-next.ensures)
-      | in-Some w ↦ hint_within S book old w.pass_hint-next.new.table c.listed.ensures w.in-Some.pair p
-          (subst (PassesHint S.task book old w.pass_hint-next.new.table w.in-Some.pair) (sym w.next-is ∙ c.in_ok-pair.was) w.pass_hint-next.ensures)
-    ])
+    subst (λ n. p < n) c.requires.states (next_within c.args.setup.now c.args.book.now c.args.table.now c.next_pair.new.table c.listed.ensures c.args.hint p c.in_ok-pair.ensures)
 
-hint_in : (hint : Option ℕ) (p n m : ℕ) → hint ≡ Some p → n ≡ m → ForSome hint (λ q. q < m) → p < n
-hint_in hint p n m e f h = rw f (h p e)
+pub mark-requires-clause-pair : goal.mark-requires-clause-pair
+mark-requires-clause-pair c =
+    let S = c.args.setup.now in
+    let book = c.args.book.now in
+    let old = c.args.table.now in
+    let mid = c.next_pair.new.table in
+    let p = c.in_ok-pair.pair in
+    rw (as_long S book old mid c.listed.ensures c.args.hint c.next_pair.result c.next_pair.ensures) (next_within S book old mid c.listed.ensures c.args.hint p c.in_ok-pair.ensures)
 
 pub returns-in_err-pair-clause-takes : goal.returns-in_err-pair-clause-takes
 returns-in_err-pair-clause-takes c =
-    let S = c.args.setup.now in
-    let book = c.args.book.now in
-    let old = c.args.table.now in
-    elim c.match-hint.branch [
-      | in-None w ↦ rw (w.in-None.is, w.table-is, c.from_residual.ensures) (takes_none S book old w.pass_over-next.new.table c.listed.ensures
-          (subst (PassesOver S.task book old w.pass_over-next.new.table) (sym w.next-is ∙ c.in_err-pair.was) w.pass_over-next.ensures))
-      | in-Some w ↦ rw (w.in-Some.is, w.table-is, c.from_residual.ensures) (takes_no_hint S book old w.pass_hint-next.new.table c.listed.ensures w.in-Some.pair
-          (subst (PassesHint S.task book old w.pass_hint-next.new.table w.in-Some.pair) (sym w.next-is ∙ c.in_err-pair.was) w.pass_hint-next.ensures)
-          (hint_in c.args.hint w.in-Some.pair (length old.states) (length S.task.pairs) w.in-Some.is c.requires.states c.requires.hint))
-    ]
+    rw c.from_residual.ensures (takes_not c.args.setup.now c.args.book.now c.args.table.now c.next_pair.new.table c.listed.ensures c.args.hint c.in_err-pair.ensures
+    (subst (λ n. ForSome c.args.hint (λ q. q < n)) (sym c.requires.states) c.requires.hint))
 
 pub returns-clause-takes : goal.returns-clause-takes
 returns-clause-takes c =
-    let S = c.args.setup.now in
-    let book = c.args.book.now in
-    let old = c.args.table.now in
-    let p = c.in_ok-pair.pair in
-    let new = c.hand_out.new.table in
-    elim c.match-hint.branch [
-      | in-None w ↦ rw (w.in-None.is, c.hand_out.ensures.pair) (takes_some S book old w.pass_over-next.new.table c.listed.ensures p new
-          (subst (PassesOver S.task book old w.pass_over-next.new.table) (sym w.next-is ∙ c.in_ok-pair.was) w.pass_over-next.ensures)
-          (rw w.table-is at c.hand_out.ensures.states) (rw w.table-is at c.hand_out.ensures.ready))
-      | in-Some w ↦ rw (w.in-Some.is, c.hand_out.ensures.pair) (takes_hint S book old w.pass_hint-next.new.table c.listed.ensures w.in-Some.pair p new
-          (subst (PassesHint S.task book old w.pass_hint-next.new.table w.in-Some.pair) (sym w.next-is ∙ c.in_ok-pair.was) w.pass_hint-next.ensures)
-          (hint_in c.args.hint w.in-Some.pair (length old.states) (length S.task.pairs) w.in-Some.is c.requires.states c.requires.hint)
-          (rw w.table-is at c.hand_out.ensures.states) (rw w.table-is at c.hand_out.ensures.ready))
-    ]
+    rw c.ticket_of-ticket.ensures.pair (takes c.args.setup.now c.args.book.now c.args.table.now c.next_pair.new.table c.listed.ensures c.args.hint c.in_ok-pair.pair c.mark.new.self c.in_ok-pair.ensures
+    (subst (λ n. ForSome c.args.hint (λ q. q < n)) (sym c.requires.states) c.requires.hint) c.mark.ensures.states c.mark.ensures.ready)

@@ -1,16 +1,17 @@
 -- The next pair was not Ready, so it goes to the end.
 use Rattle.std.proofs.Common.{ℕ, ◌≡◌, ◌≢◌, ◌++◌, ◌∷◌, [], Some, take, get_or, slice_get, slice_set, append-nil, append_assoc, subst, sym, ◌∙◌, ap, refl}
+use Rattle.std.proofs.Math.Seq.{take-nil}
 use Rattle.std.proofs.lemmas.List.{take_more}
 use Rattle.std.proofs.lemmas.Option.{slice_get_within}
 use Rattle.chase_laws.specs.declared.pair_state.PairState.TheVariants as state
-use Rattle.chase_core.proofs.Aside.{take_nil, take_push, next_flies, next_set}
+use Rattle.chase_core.proofs.Aside.{take_push, next_flies, next_set}
 use Rattle.chase_core.proofs.wake.wake_each.Goals as goal
 
 pub loop-pair-init : goal.loop-pair-init
 loop-pair-init c = record {
   states = refl;
   ready = sym (append-nil c.args.table.now.ready);
-  woken = c.requires.empty ∙ sym (take_nil c.args.woken.now.room);
+  woken = c.requires.empty ∙ sym (take-nil c.args.woken.now.room);
   room = refl;
 }
 

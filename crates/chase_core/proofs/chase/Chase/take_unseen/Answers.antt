@@ -10,11 +10,11 @@ pub invariant_of-self : goal.invariant_of-self
 invariant_of-self c =
     let S = c.self.inside.setup.now in
     let book = c.self.inside.book in
-    let event = taken_event (running_with S book c.self.inside.table) (running_with S book c.take_unseen_parts.new.table) c.args.hint (pair_of c.take_unseen_parts.result) c.take_unseen_parts.ensures.takes in
-    kept_by c.law_core.ensures.event S book book c.self.inside.table c.take_unseen_parts.new.table _ _ c.self.invariant event.0 event.1 refl refl
+    let event = taken_event (running_with S book c.self.inside.table) (running_with S book c.take_parts.new.table) c.args.hint (pair_of c.take_parts.result) c.take_parts.ensures.takes in
+    kept_by c.law_core.ensures.event S book book c.self.inside.table c.take_parts.new.table _ _ c.self.invariant event.0 event.1 refl refl
 
 pub returns-clause-apart : goal.returns-clause-apart
 returns-clause-apart c =
     let S = c.self.inside.setup.now in
     let book = c.self.inside.book in
-    all_apart (running_with S book c.self.inside.table) (running_with S book c.take_unseen_parts.new.table) c.args.hint c.take_unseen_parts.result refl c.take_unseen_parts.ensures.takes c.take_unseen_parts.ensures.ends
+    all_apart (running_with S book c.self.inside.table) (running_with S book c.take_parts.new.table) c.args.hint c.take_parts.result refl c.take_parts.ensures.takes c.take_parts.ensures.ends
