@@ -84,7 +84,7 @@ pub fn chase_growth<R: Threads + Wait + Sync, G: Gate>(
     let most = bound_candidates(alloc, &both, &patterns, limit)?;
     if let Way::Signatures = way.unwrap_or(way_for(both.names(), most)) {
         check_limit(alloc, &both, &patterns, most, limit)?;
-        let rows = most_rows(both.names(), way);
+        let rows = most_rows(both.names(), most, way);
         let grown = grow_signatures(rt, alloc, workers, &first, &both, &patterns, rows)?;
         if let Some(grown) = grown {
             return Ok(grown);

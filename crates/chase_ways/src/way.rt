@@ -18,29 +18,34 @@ pub enum Way {
     Signatures,
 }
 
-/// Where there may be more candidate pairs a name, the chase goes by signatures.
-const PAIRS_A_NAME: u64 = 4;
-
-/// Where the way is not asked for, a chase by signatures may list so many valuations a name, and `MORE_ROWS` more.
+/// Where the way is not asked for, a chase by signatures may list so many valuations a name, and more where there are many pairs.
 const ROWS_A_NAME: u64 = 16;
 
-/// So that small graphs are never told to have too many.
+/// So many more a candidate pair: about as many as are listed in the time in which a pair is found, filtered and searched.
+const ROWS_A_PAIR: u64 = 4;
+
+/// That many more at most.
 const MORE_ROWS: u64 = 1 << 20;
 
-/// The way that serves a graph with so many names, in which there are at most so many candidate pairs, or too many to say.
+/// The way that serves a graph with so many names, in which there are at most so many candidate pairs, or too many to say. With
+/// more pairs than names signatures take less time, by one worker and by several.
 pub(crate) fn way_for(names: u32, most: Option<u64>) -> Way {
     match most {
-        Some(pairs) if pairs <= PAIRS_A_NAME * names as u64 => Way::Pairs,
+        Some(pairs) if pairs <= u64::from(names) => Way::Pairs,
         _ => Way::Signatures,
     }
 }
 
-/// How many valuations may be listed of a graph with so many names. Where a way is asked for, there is no end to it.
-pub(crate) fn most_rows(names: u32, way: Option<Way>) -> u64 {
-    match way {
-        Some(_) => u64::MAX,
-        None => ROWS_A_NAME * names as u64 + MORE_ROWS,
+/// How many valuations may be listed of such a graph. Where a way is asked for, there is no end to it.
+pub(crate) fn most_rows(names: u32, most: Option<u64>, way: Option<Way>) -> u64 {
+    if way.is_some() {
+        return u64::MAX;
     }
+    let more = match most {
+        Some(pairs) => pairs.saturating_mul(ROWS_A_PAIR).min(MORE_ROWS),
+        None => MORE_ROWS,
+    };
+    ROWS_A_NAME * u64::from(names) + more
 }
 
 /// Stops where there are more candidate pairs than `limit`. They are counted only where it is not known that there are at most

@@ -141,7 +141,7 @@ pub fn chase_graph<R: Threads + Wait + Sync, G: Gate>(
 {
     let most = bound_candidates(alloc, &graph, &patterns, limit)?;
     if let Way::Signatures = way.unwrap_or(way_for(graph.names(), most)) {
-        let rows = most_rows(graph.names(), way);
+        let rows = most_rows(graph.names(), most, way);
         let chased = chase_signatures(rt, alloc, workers, &graph, &patterns, most, limit, rows)?;
         if let Some(Chased { labels, journal }) = chased {
             let ground = Ground::new(graph, patterns);

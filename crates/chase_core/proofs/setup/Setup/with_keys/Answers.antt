@@ -18,16 +18,16 @@ invariant_of-result c =
       few_patterns = c.requires.few_patterns;
       few_pairs = c.requires.few_pairs;
       plans = rw c.deref-2.ensures.value at c.in_ok-plans.ensures;
-      near = record { one_each = c.in_ok-near.ensures.names.one_each; exact = c.in_ok-near.ensures.names.exact };
+      near = let near = rw c.deref-3.ensures.value at c.in_ok-near.ensures.names in record { one_each = near.one_each; exact = near.exact };
       ranges = c.requires.keys;
       widest = record {
         most = c.most_near.result;
-        is_most = subst (λ ps. IsMost c.in_ok-near.near.near ps c.most_near.result) c.deref-4.ensures.value c.most_near.ensures;
+        is_most = subst (λ ps. IsMost c.in_ok-near.near.near ps c.most_near.result) c.deref-5.ensures.value c.most_near.ensures;
         least = c.min-widest.ensures ∙ ap (min c.most_near.result) (c.from.ensures ∙ c.names-names.ensures.names);
       };
       by_end =
           let count = c.names-names.ensures.names in
-          let exact = rw c.deref-3.ensures.value at c.in_ok-ends.ensures.exact in
+          let exact = rw c.deref-4.ensures.value at c.in_ok-ends.ensures.exact in
           record {
             one_each = c.in_ok-ends.ensures.one_each ∙ count;
             ascending = λ e h. c.in_ok-ends.ensures.ascending e (subst (λ n. e < n) (sym count) h);
