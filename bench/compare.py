@@ -3,7 +3,7 @@
 
 Usage: bench/compare.py [--before PROGRAM] [RUNS [SEED]]. It ends with status 0 where every report is the same.
 With `--before` another program has to print the same, too: one that always goes by signatures, say, which is this one where
-`PAIRS_A_NAME` of crates/chase_ways/src/way.rt is 0.
+`way_for` of crates/chase_ways/src/way.rt answers nothing else.
 The matcher here lists whole valuations, joins what coincides and begins again until nothing changes. It works on the
 terms before they are written down, so it reads neither graphs nor keys, and shares nothing with the program.
 """
