@@ -26,8 +26,8 @@ use Rattle.gkey_cmd.specs.Commands.{Wanted, Matching, Proving, Checking, Convert
 use Rattle.gkey_cmd.specs.Reading.{NamedFiles, GraphSays, KeyFileSays, ProofFileSays, left_by, IsAcceptedLeaving, IsRefusedSo, AllAccepted, FirstRefused}
 use Rattle.gkey_cmd.specs.HowFar.{IsReadWithin, FileLeft, KeysLeft, ProofLeft, ChaseStops, LeavesFiles, StopsReading}
 use Rattle.gkey_cmd.specs.Failing.{HasFailed}
-use Rattle.gkey_cmd.specs.Matched.{IsReport, HasTooManyPairs}
-use Rattle.gkey_cmd.specs.Checked.{IsChecked}
+use Rattle.gkey_cmd.specs.Match.{IsReport, HasTooManyPairs}
+use Rattle.gkey_cmd.specs.Check.{IsChecked}
 use Rattle.gkey_cmd.specs.Entities.{NamesOne}
 use Rattle.gkey_cmd.specs.Written.{ChaseHasMorePairs, IsAnswered, IsRefused}
 use Rattle.gkey_cmd.specs.ChaseEnds.{ChaseEnds, IsProofOfFiles, IsMergedOfFiles, IsWhyOfFiles, NameTwo, WhyEnds}

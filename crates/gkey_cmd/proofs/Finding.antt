@@ -15,7 +15,7 @@ use Rattle.key_file.specs.Numbered.{names_for, graph_of, row_of}
 use Rattle.key_file.proofs.CallerLemmas.{AreNamed, all_named}
 use Rattle.graph_rows.specs.Numbered.{AreSameGraph}
 use Rattle.gkey_cmd.specs.Entities.{IsEntityOf, SpellsEntity, NamesOne}
-use Rattle.gkey_cmd.specs.WhyParts.{SpellsNumber, SpellsNoNumber}
+use Rattle.gkey_cmd.specs.Why.{SpellsNumber, SpellsNoNumber}
 
 -- ---- names
 

@@ -16,7 +16,7 @@ use Rattle.graph_rows.proofs.CallerLemmas.{told_more, told_both}
 use Rattle.gkey_cmd.specs.Commands.{Growing}
 use Rattle.gkey_cmd.specs.Reading.{NamedFiles, GraphSays, KeyFileSays, left_by, IsAcceptedLeaving, AllAccepted}
 use Rattle.gkey_cmd.specs.HowFar.{KeysLeft, StopsReading}
-use Rattle.gkey_cmd.specs.Matched.{IsReport, HasTooManyPairs}
+use Rattle.gkey_cmd.specs.Match.{IsReport, HasTooManyPairs}
 use Rattle.gkey_cmd.specs.Written.{GrowthHasMorePairs, IsAnswered, IsRefused}
 use Rattle.gkey_cmd.specs.ChaseEnds.{ChaseEnds}
 use Rattle.gkey_cmd.specs.Endings.{more_ending, Stopped, StopsAt, EndsAt, ReadSoFar}

@@ -10,11 +10,11 @@ use Rattle.proof_file.specs.CanonicalProof.{proof_text}
 use Rattle.proof_file.proofs.CallerLemmas.{proof_once}
 use Rattle.gkey_cmd.specs.Commands.{Wanted, Matching, Proving, Checking, Converting, Demonstrating, Merging, Explaining, Growing, Helping, TellingVersion, demo_graph_name, demo_keys_name}
 use Rattle.gkey_cmd.specs.Reading.{NamedFiles, GraphSays, KeyFileSays, ProofFileSays, left_by}
-use Rattle.gkey_cmd.specs.Matched.{IsReport}
-use Rattle.gkey_cmd.specs.Checked.{IsChecked}
+use Rattle.gkey_cmd.specs.Match.{IsReport}
+use Rattle.gkey_cmd.specs.Check.{IsChecked}
 use Rattle.gkey_cmd.specs.Demo.{IsDemoText}
-use Rattle.gkey_cmd.specs.Merged.{IsMergedOutput}
-use Rattle.gkey_cmd.specs.Explained.{IsReason, AreSameTerms}
+use Rattle.gkey_cmd.specs.Merge.{IsMergedOutput}
+use Rattle.gkey_cmd.specs.Why.{IsReason, AreSameTerms}
 use Rattle.gkey_cmd.specs.Written.{Answers, HasOneOutput}
 use Rattle.gkey_cmd.specs.declared.ending.Answer.{Answer}
 use Rattle.gkey_cmd.specs.declared.ending.Answer.TheVariants.{Given, NotAccepted, NotTheSame}

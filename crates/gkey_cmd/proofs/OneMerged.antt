@@ -16,7 +16,7 @@ use Rattle.term_text.specs.CanonicalText.{term_text, triple_text, texts_of}
 use Rattle.key_file.specs.KeyShape.{KeyShape}
 use Rattle.key_file.specs.Numbered.{names_for, graph_of}
 use Rattle.merge_graph.specs.MergedGraph.{name_at, AreFaces, image, ListsOnce, lines_of}
-use Rattle.gkey_cmd.specs.Merged.{IsMergedOutput}
+use Rattle.gkey_cmd.specs.Merge.{IsMergedOutput}
 use Rattle.gkey_cmd.proofs.OneList.{one_list}
 use Rattle.gkey_cmd.proofs.OneReport.{tests_agree}
 

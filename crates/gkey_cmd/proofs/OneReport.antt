@@ -11,7 +11,7 @@ use Rattle.term_text.specs.CanonicalText.{term_text, texts_of}
 use Rattle.key_file.specs.KeyShape.{KeyShape}
 use Rattle.key_file.specs.Compile.{patterns_of}
 use Rattle.key_file.specs.Numbered.{names_for, graph_of}
-use Rattle.gkey_cmd.specs.Matched.{IsReport}
+use Rattle.gkey_cmd.specs.Match.{IsReport}
 
 -- ---- all that is asked about is a name
 

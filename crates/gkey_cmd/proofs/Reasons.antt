@@ -25,8 +25,7 @@ use Rattle.proof_file.specs.ProofText.{ProofSays}
 use Rattle.proof_file.specs.CanonicalProof.{proof_text, CanBeRead}
 use Rattle.why_pair.specs.Kept.{kept_by}
 use Rattle.why_pair.specs.Why.{StepsLead, AllReached, TellsPart}
-use Rattle.gkey_cmd.specs.Explained.{SpellApart}
-use Rattle.gkey_cmd.specs.WhyParts.{SpellsNumber, SpellTwo, TellsPair}
+use Rattle.gkey_cmd.specs.Why.{SpellApart, SpellsNumber, SpellTwo, TellsPair}
 use Rattle.gk_base.specs.declared.stop.Stop.{Stop}
 use Rattle.gk_base.specs.declared.stop.Stop.TheVariants as stop
 use Rattle.pair_seed.specs.Stop.{IsRightStop}

@@ -22,7 +22,7 @@ use Rattle.key_file.specs.Compile.{patterns_of}
 use Rattle.key_file.specs.Numbered.{names_for, graph_of}
 use Rattle.graph_rows.specs.Numbered.{AreSameGraph}
 use Rattle.chase_ways.specs.Ground.{GroundShape}
-use Rattle.gkey_cmd.specs.Matched.{IsReport, HasTooManyPairs}
+use Rattle.gkey_cmd.specs.Match.{IsReport, HasTooManyPairs}
 use Rattle.gkey_cmd.specs.Told.{AreOfFiles}
 use Rattle.gkey_cmd.specs.ChaseEnds.{chase_ending, IsStopped, IsChaseEnding}
 use Rattle.gkey_cmd.specs.declared.ending.Ending.{Ending}

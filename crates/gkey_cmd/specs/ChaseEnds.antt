@@ -10,16 +10,16 @@ use Rattle.chase_laws.specs.Graph.{NumberedGraph}
 use Rattle.pair_seed.specs.Stop.{IsRightStop}
 use Rattle.pair_seed.specs.declared.stop.TooManyPairs.{TooManyPairs}
 use Rattle.key_file.specs.KeyShape.{KeyShape}
-use Rattle.gkey_cmd.specs.Matched.{IsReport, HasTooManyPairs}
+use Rattle.gkey_cmd.specs.Match.{IsReport, HasTooManyPairs}
 use Rattle.key_file.specs.Name.{is_name}
 use Rattle.key_file.specs.Numbered.{names_for}
 use Rattle.term_text.specs.ReadBack.{CanBeSpelled}
-use Rattle.gkey_cmd.specs.Proved.{IsProofText}
+use Rattle.gkey_cmd.specs.Prove.{IsProofText}
 use Rattle.gkey_cmd.specs.Demo.{IsDemoText}
 use Rattle.merge_graph.specs.Saying.{is_iri}
-use Rattle.gkey_cmd.specs.Merged.{IsMergedOutput}
+use Rattle.gkey_cmd.specs.Merge.{IsMergedOutput}
 use Rattle.gkey_cmd.specs.Entities.{NamesOne}
-use Rattle.gkey_cmd.specs.Explained.{IsReason, SpellApart, not_the_same}
+use Rattle.gkey_cmd.specs.Why.{IsReason, SpellApart, not_the_same}
 use Rattle.gkey_cmd.specs.declared.ending.Answer.{Answer}
 use Rattle.gkey_cmd.specs.declared.ending.Answer.TheVariants.{Given, NotAccepted, NotTheSame}
 use Rattle.gkey_cmd.specs.declared.ending.Asked.TheVariants.{First, Second}

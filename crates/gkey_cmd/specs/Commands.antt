@@ -114,26 +114,26 @@ pub record IsChaseCommand (words : List (List ℕ)) (command : Wanted) (workers 
 
 -- it is this command with a chase, and has so many workers
 abbrev pub IsChaseOf : Option Wanted → (workers : ℕ) → Command → Type 0
-IsChaseOf asked workers (Match w graph keys) = (asked ≡ Some (Matching graph.now keys.now)) × (w ≡ workers)
-IsChaseOf asked workers (Prove w graph keys) = (asked ≡ Some (Proving graph.now keys.now)) × (w ≡ workers)
-IsChaseOf asked workers (Check graph keys proof) = ⊥
+IsChaseOf asked workers (Match w files) = (asked ≡ Some (Matching files.graph.now files.keys.now)) × (w ≡ workers)
+IsChaseOf asked workers (Prove w files) = (asked ≡ Some (Proving files.graph.now files.keys.now)) × (w ≡ workers)
+IsChaseOf asked workers (Check files) = ⊥
 IsChaseOf asked workers (Convert proof) = ⊥
 IsChaseOf asked workers (Demo n) = ⊥
-IsChaseOf asked workers (Merge w graph keys) = (asked ≡ Some (Merging graph.now keys.now)) × (w ≡ workers)
-IsChaseOf asked workers (Why w graph keys first second) = ⊥
-IsChaseOf asked workers (Grow w graph more keys) = ⊥
+IsChaseOf asked workers (Merge w files) = (asked ≡ Some (Merging files.graph.now files.keys.now)) × (w ≡ workers)
+IsChaseOf asked workers (Why w words) = ⊥
+IsChaseOf asked workers (Grow w files) = ⊥
 IsChaseOf asked workers Help = ⊥
 IsChaseOf asked workers Version = ⊥
 
 -- the command for these words
 abbrev pub IsCommand : List (List ℕ) → Command → Type 0
-IsCommand words (Match workers graph keys) = IsChaseCommand words (Matching graph.now keys.now) workers
-IsCommand words (Prove workers graph keys) = IsChaseCommand words (Proving graph.now keys.now) workers
-IsCommand words (Check graph keys proof) = wanted words ≡ Some (Checking graph.now keys.now proof.now)
+IsCommand words (Match workers files) = IsChaseCommand words (Matching files.graph.now files.keys.now) workers
+IsCommand words (Prove workers files) = IsChaseCommand words (Proving files.graph.now files.keys.now) workers
+IsCommand words (Check files) = wanted words ≡ Some (Checking files.graph.now files.keys.now files.proof.now)
 IsCommand words (Convert proof) = wanted words ≡ Some (Converting proof.now)
 IsCommand words (Demo n) = (wanted words ≡ Some (Demonstrating n)) × (0 < n) × (n ≤ 100000)
-IsCommand words (Merge workers graph keys) = IsChaseCommand words (Merging graph.now keys.now) workers
-IsCommand words (Why workers graph keys first second) = IsChaseCommand words (Explaining graph.now keys.now first.now second.now) workers
-IsCommand words (Grow workers graph more keys) = IsChaseCommand words (Growing graph.now more.now keys.now) workers
+IsCommand words (Merge workers files) = IsChaseCommand words (Merging files.graph.now files.keys.now) workers
+IsCommand words (Why workers asked) = IsChaseCommand words (Explaining asked.files.graph.now asked.files.keys.now asked.first.now asked.second.now) workers
+IsCommand words (Grow workers files) = IsChaseCommand words (Growing files.graph.now files.more.now files.keys.now) workers
 IsCommand words Help = wanted words ≡ Some Helping
 IsCommand words Version = wanted words ≡ Some TellingVersion

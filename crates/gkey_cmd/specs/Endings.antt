@@ -14,10 +14,9 @@ use Rattle.gk_io.specs.declared.sink.Sink
 use Rattle.key_lang.specs.declared.fault.KeyRefusal.{KeyRefusal}
 use Rattle.proof_file.specs.declared.fault.ProofRefusal.{ProofRefusal}
 use Rattle.proof_file.specs.Steps.{StepShape}
-use Rattle.graph_rows.specs.GraphFile.{GraphStops, AreMoreRowsOf}
+use Rattle.graph_rows.specs.GraphFile.{GraphStops}
 use Rattle.graph_rows.specs.Rows.{StandFor}
 use Rattle.graph_rows.specs.declared.rows.Rows.{Rows}
-use Rattle.graph_rows.specs.declared.pieces.MoreRows.{MoreRows}
 use Rattle.key_file.specs.KeyShape.{KeyShape}
 use Rattle.gkey_cmd.specs.Commands.{Wanted, Demonstrating, AsksNoFiles}
 use Rattle.gkey_cmd.specs.Texts.{usage, out_of_memory, write_failed, read_failed, refused_text}
@@ -184,11 +183,6 @@ pub record ReadProof {K : Type 0} (shelf : Shelf.Ghosts K) (shelf_before shelf_n
   pub in_proof : IfSome (shelf.held shelf_before) (λ files. ProofFileSays limits (bytes_of files name) (Ok steps))
   pub few : length steps < 2 ^ 32
   pub left : ProofLeft shelf shelf_before shelf_now limits name
-
--- the graph of this name was read behind rows that are there, and goes on with them
-abbrev pub ReadMore : {K : Type 0} (shelf : Shelf.Ghosts K) (shelf_before shelf_now : K) → Limits → (name : List ℕ) → Rows → MoreRows → Type 0
-ReadMore shelf shelf_before shelf_now limits name rows grown =
-    (shelf.faults shelf_now ≡ shelf.faults shelf_before) × ((added : List Triple) × AreMoreRowsOf shelf shelf_before limits name rows grown added)
 
 -- Two graphs and the key file of these names were read and are accepted: the rows stand for the triples of both, the second
 -- was read within what the first leaves of the limits, and the key file was left as it is to be left.

@@ -5,17 +5,17 @@ pub mod Reading
 pub mod HowFar
 pub mod Failing
 pub mod Sent
-pub mod Matched
+pub mod Match
 pub mod Demo
-pub mod Proved
-pub mod Checked
-pub mod Merged
+pub mod Prove
+pub mod Check
+pub mod Merge
 pub mod Entities
-pub mod Explained
+pub mod Why
 pub mod Written
 pub mod Run
 -- inner invariants and words of the proofs
+pub mod ChaseOptions
 pub mod ChaseEnds
 pub mod Told
-pub mod WhyParts
 pub mod Endings

@@ -1,5 +1,5 @@
 -- What a chase of files works on, and the texts that it is made into when it is finished: this project's own words.
-use Rattle.std.specs.Prelude.{List, ℕ, true, All, map, length, Ok, ◌≡◌, ◌≤◌, ◌<◌, ◌^◌}
+use Rattle.std.specs.Prelude.{List, ℕ, true, All, map, length, Ok, ◌≡◌, ◌≤◌}
 use Rattle.gk_base.specs.declared.term.Term.{Term}
 use Rattle.gk_base.specs.declared.term.Triple.{Triple}
 use Rattle.chase_laws.specs.declared.entry.Entry.{Entry}
@@ -21,12 +21,6 @@ use Rattle.demo_graph.specs.Counts.{IsMemberCount, IsClassCount}
 use Rattle.demo_graph.specs.DemoLine.{demo_line_text}
 use Rattle.merge_graph.specs.MergedGraph.{same_label, triple_at, IsSortedText, AreApart}
 use Rattle.merge_graph.specs.Saying.{CanBeSaid, IsReadAsMerged}
-
--- a number of candidate pairs and a number of workers that a chase may be given
-pub record AreInRange (limit workers : ℕ) : Type 0 where
-  pub below : limit < 2 ^ 32
-  pub some : 0 < workers
-  pub few : workers ≤ 64
 
 -- the names, and the graph and the patterns that were chased, are those of these triples and keys, in numbers
 pub record AreOfFiles (terms : List Term) (ground : GroundShape) (triples : List Triple) (keys : List KeyShape) : Type 0 where

@@ -10,13 +10,13 @@ use Rattle.gkey_cmd.specs.Texts.{usage, help_text, version_text, refused_text}
 use Rattle.gkey_cmd.specs.Reading.{NamedFiles, GraphSays, KeyFileSays, ProofFileSays, left_by, AllAccepted, FirstRefused}
 use Rattle.proof_file.specs.Steps.{StepShape}
 use Rattle.proof_file.specs.CanonicalProof.{proof_text}
-use Rattle.gkey_cmd.specs.Matched.{IsReport, HasTooManyPairs}
-use Rattle.gkey_cmd.specs.Proved.{IsProofText}
-use Rattle.gkey_cmd.specs.Checked.{IsChecked}
+use Rattle.gkey_cmd.specs.Match.{IsReport, HasTooManyPairs}
+use Rattle.gkey_cmd.specs.Prove.{IsProofText}
+use Rattle.gkey_cmd.specs.Check.{IsChecked}
 use Rattle.gkey_cmd.specs.Demo.{IsDemoText}
-use Rattle.gkey_cmd.specs.Merged.{IsMergedOutput}
+use Rattle.gkey_cmd.specs.Merge.{IsMergedOutput}
 use Rattle.gkey_cmd.specs.Entities.{NamesOne}
-use Rattle.gkey_cmd.specs.Explained.{IsReason, SpellApart, not_the_same}
+use Rattle.gkey_cmd.specs.Why.{IsReason, SpellApart, not_the_same}
 use Rattle.gkey_cmd.specs.declared.ending.Answer.{Answer}
 use Rattle.gkey_cmd.specs.declared.ending.Answer.TheVariants.{Given, NotAccepted, NotTheSame}
 use Rattle.gkey_cmd.specs.declared.ending.Asked.{Asked}

@@ -4,14 +4,15 @@ ghost use Rattle.std.specs.Prelude.{◌≡◌, ◌<◌, ◌^◌, List, IfOk, IfE
 ghost use Rattle.gk_base.specs.declared.term.Triple.{Triple as AnyTriple};
 ghost use Rattle.pair_seed.specs.Pairs.{HasMoreCandidates};
 ghost use Rattle.graph_rows.specs.Rows.{StandFor, AreFew};
-ghost use Rattle.gkey_cmd.specs.Matched.{HasTooManyPairs};
-ghost use Rattle.gkey_cmd.specs.Told.{AreOfFiles, IsFinished, AreInRange};
+ghost use Rattle.gkey_cmd.specs.Match.{HasTooManyPairs};
+ghost use Rattle.gkey_cmd.specs.ChaseOptions.{AreInRange};
+ghost use Rattle.gkey_cmd.specs.Told.{AreOfFiles, IsFinished};
 ghost use Rattle.gkey_cmd.specs.ChaseEnds.{chase_ending, IsStopped, IsChaseEnding};
 
 use crate::ending::{Ending, Refusal};
 use chase_laws::laws::law_rows;
 use chase_ways::{Finished, chase_graph};
-use gk_base::Stop;
+use gk_base::{Limits, Stop};
 use graph_rows::{Numbered, Rows, number};
 use key_lang::KeyFile;
 use pair_seed::SeedStop;
@@ -21,15 +22,15 @@ use std::thread::Threads;
 use steal_pool::Gate;
 use term_table::Names;
 
-/// How the chase of a command goes.
+/// How a command that chases goes.
 #[derive(Drop)]
-pub struct ChaseOptions<'g, G> {
-    /// The most candidate pairs that there may be: below 2^32.
-    pub limit: u64,
+pub struct ChaseOptions<'o, G> {
+    /// What the files and the candidate pairs of a run may be at most.
+    pub limits: &'o Limits,
     /// How many threads may be used, 1 to 64. Where candidate pairs are searched, as many workers search them.
     pub workers: u32,
     /// What each worker passes before a search.
-    pub gate: &'g G,
+    pub gate: &'o G,
 }
 
 /// The ending of a run whose chase was stopped, or whose candidate pairs are more than this limit.
@@ -51,13 +52,13 @@ pub(crate) fn chase_numbered<Rt: Threads + Wait + Sync, G: Gate>(
     options: &ChaseOptions<'_, G>,
 ) -> Result<(Names, Finished), Ending>
     requires few { length numbered.patterns.items < 2 ^ 32 }
-    requires options { AreInRange options.now.limit options.now.workers }
+    requires options { AreInRange options.now.limits.now options.now.workers }
     ensures names { IfOk result (λ r. r.0 ≡ numbered.names) }
     ensures graph { IfOk result (λ r. r.1.ground.graph ≡ numbered.graph) }
     ensures patterns { IfOk result (λ r. r.1.ground.patterns ≡ numbered.patterns.items) }
     ensures finished { IfOk result (λ r. IsFinished r.1.ground r.1.labels.items r.1.journal.items) }
-    ensures no_more { OnOk result (¬ (HasMoreCandidates numbered.graph numbered.patterns.items options.now.limit)) }
-    ensures ends { IfErr result (IsStopped numbered.graph numbered.patterns.items options.now.limit) }
+    ensures no_more { OnOk result (¬ (HasMoreCandidates numbered.graph numbered.patterns.items options.now.limits.now.pairs)) }
+    ensures ends { IfErr result (IsStopped numbered.graph numbered.patterns.items options.now.limits.now.pairs) }
 {
     let Numbered {
         names,
@@ -70,13 +71,13 @@ pub(crate) fn chase_numbered<Rt: Threads + Wait + Sync, G: Gate>(
         options.workers,
         graph,
         patterns,
-        options.limit,
+        options.limits.pairs,
         None,
         options.gate,
     );
     match chased {
         Ok(finished) => Ok((names, finished)),
-        Err(stop) => Err(chase_ending(stop, options.limit)),
+        Err(stop) => Err(chase_ending(stop, options.limits.pairs)),
     }
 }
 
@@ -89,11 +90,11 @@ pub(crate) fn chase_files<Rt: Threads + Wait + Sync, G: Gate>(
     options: &ChaseOptions<'_, G>,
 ) -> Result<(Names, Finished), Ending>
     requires few { AreFew rows }
-    requires options { AreInRange options.now.limit options.now.workers }
+    requires options { AreInRange options.now.limits.now options.now.workers }
     ensures of_files { IfOk result (λ r. (triples : List AnyTriple) → StandFor rows triples → AreOfFiles r.0 r.1.ground triples keys.now) }
     ensures finished { IfOk result (λ r. IsFinished r.1.ground r.1.labels.items r.1.journal.items) }
-    ensures no_more { OnOk result ((triples : List AnyTriple) → StandFor rows triples → ¬ (HasTooManyPairs triples keys.now options.now.limit)) }
-    ensures ends { IfErr result (λ ending. (triples : List AnyTriple) → StandFor rows triples → IsChaseEnding triples keys.now options.now.limit ending) }
+    ensures no_more { OnOk result ((triples : List AnyTriple) → StandFor rows triples → ¬ (HasTooManyPairs triples keys.now options.now.limits.now.pairs)) }
+    ensures ends { IfErr result (λ ending. (triples : List AnyTriple) → StandFor rows triples → IsChaseEnding triples keys.now options.now.limits.now.pairs ending) }
 {
     law_rows();
     let numbered = number(rt, alloc, options.workers, rows, keys)?;

@@ -4,7 +4,7 @@ ghost use Rattle.std.specs.Prelude.{◌≡◌, ℕ, Some, IfOk, IfSome, IfNone, 
 ghost use Rattle.gk_base.specs.declared.term.Term.{Term as AnyTerm};
 ghost use Rattle.chase_laws.specs.Graph.{IsEntity};
 ghost use Rattle.nt_lex.specs.Spelling.{Spells};
-ghost use Rattle.gkey_cmd.specs.WhyParts.{SpellsNumber};
+ghost use Rattle.gkey_cmd.specs.Why.{SpellsNumber};
 
 use gk_base::{NoMemory, Stop, Text};
 use nt_lex::{LexedTerm, lex_object};

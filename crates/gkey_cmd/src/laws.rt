@@ -6,14 +6,16 @@ ghost use Rattle.gk_base.specs.declared.term.Triple.{Triple};
 ghost use Rattle.key_file.specs.KeyShape.{KeyShape};
 ghost use Rattle.gkey_cmd.specs.Commands.{Wanted};
 ghost use Rattle.gkey_cmd.specs.Reading.{NamedFiles};
-ghost use Rattle.gkey_cmd.specs.Matched.{IsReport};
-ghost use Rattle.gkey_cmd.specs.Merged.{IsMergedOutput};
+ghost use Rattle.gkey_cmd.specs.Match.{IsReport};
+ghost use Rattle.gkey_cmd.specs.Merge.{IsMergedOutput};
 ghost use Rattle.gkey_cmd.specs.Demo.{IsDemoText};
 ghost use Rattle.gkey_cmd.specs.Written.{HasOneOutput, IsAnswered, WritesFor};
 ghost use Rattle.gkey_cmd.specs.declared.ending.Answer.{Answer};
 
-/// The output is one: whatever meets the contract of a run prints the same bytes, with any number of workers and in any order
-/// of their turns.
+/// A command that is neither `prove` nor `why` has one output: whatever meets the contract of a run prints the same bytes for the
+/// same files and limits, with any number of workers and in any order of their turns, and its status and error text are one, too.
+/// `prove` and `why` have one answer, but of proofs there may be several. The law speaks of what goes with the files
+/// (`WritesFor`): a device that fails, want of memory, and words that ask for no command are no part of it.
 pub fn law_one_output()
     // There is one report of triples and keys, one merged graph, and one line of a demo.
     ensures report { (triples : List Triple) (keys : List KeyShape) (first second : List ℕ) →

@@ -4,9 +4,10 @@
 //!
 //! - `words`: the commands and the words that ask for them
 //! - `file`: the files that a command reads
-//! - `order`: the order in which they are read, and what comes after the last
+//! - `reading`: how they are read, up to the first that fails or is refused
 //! - `chased`: the chase of a command's files
-//! - `matched`, `proved`, `checked`, `converted`, `counted`, `merged`, `explained`, `grown`: what each command prints
+//! - `match_command`, `prove_command`, `check_command`, `convert_command`, `demo_command`, `merge_command`, `why_command`,
+//!   `grow_command`: each command, from the reading of its files to its text
 //! - `entities`: which entity of the graph a word names
 //! - `ending`: how a run ends, and what it leaves
 //! - `texts`: each status with its meaning and the text for the error stream, and the texts of help and version
@@ -15,24 +16,24 @@
 #![tactic(auto)]
 
 mod chased;
-mod checked;
-mod converted;
-mod counted;
+mod check_command;
+mod convert_command;
+mod demo_command;
 mod ending;
 mod entities;
-mod explained;
 mod file;
-mod grown;
+mod grow_command;
 mod laws;
-mod matched;
-mod merged;
-mod order;
-mod proved;
+mod match_command;
+mod merge_command;
+mod prove_command;
+mod reading;
 mod texts;
 mod top;
+mod why_command;
 mod words;
 
 pub use laws::law_one_output;
 pub use texts::{NO_MEMORY, NO_WORDS};
 pub use top::{run, run_gated};
-pub use words::{Command, read_words};
+pub use words::{CheckFiles, Command, GraphAndKeys, GrowFiles, WhyWords, read_words};

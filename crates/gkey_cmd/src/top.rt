@@ -6,9 +6,17 @@ ghost use Rattle.gkey_cmd.specs.Written.{AreAtMostStandard};
 ghost use Rattle.gkey_cmd.specs.Endings.{Caused, LeavesShelf};
 ghost use Rattle.gkey_cmd.specs.Run.{IsRun};
 
+use crate::chased::ChaseOptions;
+use crate::check_command::check_command;
+use crate::convert_command::convert_command;
+use crate::demo_command::demo_command;
 use crate::ending::{Answer, Ending, finish};
-use crate::order::{checked, converted, demonstrated, explained, grown, matched, merged, proved};
+use crate::grow_command::grow_command;
+use crate::match_command::match_command;
+use crate::merge_command::merge_command;
+use crate::prove_command::prove_command;
 use crate::texts::{help_text, version_text};
+use crate::why_command::why_command;
 use crate::words::{Command, WORKERS, read_words};
 use gk_base::{Limits, NoMemory, Text};
 use gk_io::{Shelf, Sink};
@@ -47,6 +55,19 @@ fn said(text: Result<Vec<u8>, NoMemory>) -> Ending
     }
 }
 
+/// How a chase goes under these limits, with so many workers that pass this gate.
+fn chase_options<'o, G>(limits: &'o Limits, workers: u32, gate: &'o G) -> ChaseOptions<'o, G>
+    ensures limits { result.limits.now ≡ limits.now }
+    ensures workers { result.workers ≡ workers }
+    ensures gate { result.gate.now ≡ gate.now }
+{
+    ChaseOptions {
+        limits,
+        workers,
+        gate,
+    }
+}
+
 /// How a run ends before anything is written.
 fn decide<Rt: Threads + Wait + Sync, S: Shelf, G: Gate>(
     rt: &Rt,
@@ -62,51 +83,34 @@ fn decide<Rt: Threads + Wait + Sync, S: Shelf, G: Gate>(
 {
     match read_words(words) {
         None => Ending::NoCommand,
-        Some(
-            Command::Match {
-                workers,
-                graph,
-                keys,
-            },
-        ) => given(matched(rt, alloc, shelf, graph, keys, limits, workers, gate)),
-        Some(
-            Command::Prove {
-                workers,
-                graph,
-                keys,
-            },
-        ) => given(proved(rt, alloc, shelf, graph, keys, limits, workers, gate)),
-        Some(Command::Check { graph, keys, proof }) => {
-            answered(checked(rt, alloc, shelf, graph, keys, proof, limits))
+        Some(Command::Match { workers, files }) => {
+            let options = chase_options(limits, workers, gate);
+            given(match_command(rt, alloc, shelf, &files, &options))
         }
-        Some(Command::Convert { proof }) => given(converted(alloc, shelf, proof, limits)),
-        Some(Command::Demo { n }) => given(demonstrated(rt, alloc, n, limits, WORKERS, gate)),
-        Some(
-            Command::Merge {
-                workers,
-                graph,
-                keys,
-            },
-        ) => given(merged(rt, alloc, shelf, graph, keys, limits, workers, gate)),
-        Some(
-            Command::Why {
-                workers,
-                graph,
-                keys,
-                first,
-                second,
-            },
-        ) => answered(explained(
-            rt, alloc, shelf, graph, keys, first, second, limits, workers, gate,
-        )),
-        Some(
-            Command::Grow {
-                workers,
-                graph,
-                more,
-                keys,
-            },
-        ) => given(grown(rt, alloc, shelf, graph, more, keys, limits, workers, gate)),
+        Some(Command::Prove { workers, files }) => {
+            let options = chase_options(limits, workers, gate);
+            given(prove_command(rt, alloc, shelf, &files, &options))
+        }
+        Some(Command::Check { files }) => {
+            answered(check_command(rt, alloc, shelf, &files, limits))
+        }
+        Some(Command::Convert { proof }) => given(convert_command(alloc, shelf, proof, limits)),
+        Some(Command::Demo { n }) => {
+            let options = chase_options(limits, WORKERS, gate);
+            given(demo_command(rt, alloc, n, &options))
+        }
+        Some(Command::Merge { workers, files }) => {
+            let options = chase_options(limits, workers, gate);
+            given(merge_command(rt, alloc, shelf, &files, &options))
+        }
+        Some(Command::Why { workers, words }) => {
+            let options = chase_options(limits, workers, gate);
+            answered(why_command(rt, alloc, shelf, &words, &options))
+        }
+        Some(Command::Grow { workers, files }) => {
+            let options = chase_options(limits, workers, gate);
+            given(grow_command(rt, alloc, shelf, &files, &options))
+        }
         Some(Command::Help) => said(help_text(alloc)),
         Some(Command::Version) => said(version_text(alloc)),
     }

@@ -15,6 +15,48 @@ const MOST_WORKERS: u32 = 64;
 /// The largest number that a demo has.
 const MOST_PAIRS: u32 = 100_000;
 
+/// The files of a command that chases one graph.
+#[derive(Clone, Copy)]
+pub struct GraphAndKeys<'w> {
+    /// The name of the graph.
+    pub graph: &'w Text,
+    /// The name of the key file.
+    pub keys: &'w Text,
+}
+
+/// The files of `check`.
+#[derive(Clone, Copy)]
+pub struct CheckFiles<'w> {
+    /// The name of the graph.
+    pub graph: &'w Text,
+    /// The name of the key file.
+    pub keys: &'w Text,
+    /// The name of the proof file.
+    pub proof: &'w Text,
+}
+
+/// The files of `grow`.
+#[derive(Clone, Copy)]
+pub struct GrowFiles<'w> {
+    /// The name of the graph.
+    pub graph: &'w Text,
+    /// The name of the graph that is added to the first.
+    pub more: &'w Text,
+    /// The name of the key file.
+    pub keys: &'w Text,
+}
+
+/// The files of `why`, and the words for two entities.
+#[derive(Clone, Copy)]
+pub struct WhyWords<'w> {
+    /// The graph and the keys.
+    pub files: GraphAndKeys<'w>,
+    /// The word for the one entity.
+    pub first: &'w Text,
+    /// The word for the other.
+    pub second: &'w Text,
+}
+
 /// What a run is to do, with the names of its files and the words for entities.
 #[derive(Clone, Copy)]
 pub enum Command<'w> {
@@ -22,21 +64,17 @@ pub enum Command<'w> {
     Match {
         /// How many workers search: 1 to 64.
         workers: u32,
-        graph: &'w Text,
-        keys: &'w Text,
+        files: GraphAndKeys<'w>,
     },
     /// Print a proof of all that is the same.
     Prove {
         /// How many workers search: 1 to 64.
         workers: u32,
-        graph: &'w Text,
-        keys: &'w Text,
+        files: GraphAndKeys<'w>,
     },
     /// Say whether a proof is one.
     Check {
-        graph: &'w Text,
-        keys: &'w Text,
-        proof: &'w Text,
+        files: CheckFiles<'w>,
     },
     /// Print a proof of either version in version 2.
     Convert {
@@ -51,28 +89,19 @@ pub enum Command<'w> {
     Merge {
         /// How many workers search: 1 to 64.
         workers: u32,
-        graph: &'w Text,
-        keys: &'w Text,
+        files: GraphAndKeys<'w>,
     },
     /// Print a proof that two entities are the same, or that they are not.
     Why {
         /// How many workers search: 1 to 64.
         workers: u32,
-        graph: &'w Text,
-        keys: &'w Text,
-        /// The word for the one entity.
-        first: &'w Text,
-        /// The word for the other.
-        second: &'w Text,
+        words: WhyWords<'w>,
     },
     /// Print the classes of equal entities of two graphs together. What is identified over the first is not searched again.
     Grow {
         /// How many workers search: 1 to 64.
         workers: u32,
-        graph: &'w Text,
-        /// The graph that is added to the first.
-        more: &'w Text,
-        keys: &'w Text,
+        files: GrowFiles<'w>,
     },
     /// Print what the program is, how it is called, and what its statuses mean.
     Help,
@@ -97,34 +126,17 @@ fn workers_to(word: &Text) -> Option<u32>
     number_to(word, MOST_WORKERS)
 }
 
-/// The command with a chase that has this name, if there is one.
-fn chase_command<'w>(
-    name: &Text,
-    workers: u32,
-    graph: &'w Text,
-    keys: &'w Text,
-) -> Option<Command<'w>>
-    ensures { let asked = chase_of name.now graph.now keys.now in
+/// The command with a chase of one graph that has this name, if there is one.
+fn chase_words<'w>(name: &Text, workers: u32, files: GraphAndKeys<'w>) -> Option<Command<'w>>
+    ensures { let asked = chase_of name.now files.entry.graph.now files.entry.keys.now in
         MatchOption result (asked ≡ None) (IsChaseOf asked workers) }
 {
     if name.bytes() == b"match".as_slice() {
-        Some(Command::Match {
-            workers,
-            graph,
-            keys,
-        })
+        Some(Command::Match { workers, files })
     } else if name.bytes() == b"prove".as_slice() {
-        Some(Command::Prove {
-            workers,
-            graph,
-            keys,
-        })
+        Some(Command::Prove { workers, files })
     } else if name.bytes() == b"merge".as_slice() {
-        Some(Command::Merge {
-            workers,
-            graph,
-            keys,
-        })
+        Some(Command::Merge { workers, files })
     } else {
         None
     }
@@ -141,17 +153,21 @@ fn three_files<'w>(
         MatchOption result (wanted words ≡ None) (IsCommand words) }
 {
     if name.bytes() == b"check".as_slice() {
-        Some(Command::Check {
+        let files = CheckFiles {
             graph: first,
             keys: second,
             proof: third,
-        })
+        };
+        Some(Command::Check { files })
     } else if name.bytes() == b"grow".as_slice() {
-        Some(Command::Grow {
-            workers: WORKERS,
+        let files = GrowFiles {
             graph: first,
             more: second,
             keys: third,
+        };
+        Some(Command::Grow {
+            workers: WORKERS,
+            files,
         })
     } else {
         None
@@ -201,38 +217,43 @@ fn five_words<'w>(
         MatchOption result (wanted words ≡ None) (IsCommand words) }
 {
     if name.bytes() == b"why".as_slice() {
-        Some(Command::Why {
-            workers: WORKERS,
-            graph: second,
-            keys: third,
+        let words = WhyWords {
+            files: GraphAndKeys {
+                graph: second,
+                keys: third,
+            },
             first: fourth,
             second: fifth,
+        };
+        Some(Command::Why {
+            workers: WORKERS,
+            words,
         })
     } else if second.bytes() == b"--workers".as_slice() {
-        chase_command(name, workers_to(third)?, fourth, fifth)
+        let files = GraphAndKeys {
+            graph: fourth,
+            keys: fifth,
+        };
+        chase_words(name, workers_to(third)?, files)
     } else {
         None
     }
 }
 
 /// The command `grow` with a number of workers, if the words ask for it.
-fn grow_command<'w>(
+fn grow_words<'w>(
     name: &Text,
     option: &Text,
     workers: &Text,
-    graph: &'w Text,
-    more: &'w Text,
-    keys: &'w Text,
+    files: GrowFiles<'w>,
 ) -> Option<Command<'w>>
-    ensures { let words = name.now ∷ option.now ∷ workers.now ∷ graph.now ∷ more.now ∷ keys.now ∷ [] in
+    ensures { let words = name.now ∷ option.now ∷ workers.now ∷ files.entry.graph.now ∷ files.entry.more.now ∷ files.entry.keys.now ∷ [] in
         MatchOption result (wanted words ≡ None) (IsCommand words) }
 {
     if name.bytes() == b"grow".as_slice() && option.bytes() == b"--workers".as_slice() {
         Some(Command::Grow {
             workers: workers_to(workers)?,
-            graph,
-            more,
-            keys,
+            files,
         })
     } else {
         None
@@ -240,25 +261,19 @@ fn grow_command<'w>(
 }
 
 /// The command `why` with a number of workers, if the words ask for it.
-fn why_command<'w>(
+fn why_words<'w>(
     name: &Text,
     option: &Text,
     workers: &Text,
-    graph: &'w Text,
-    keys: &'w Text,
-    first: &'w Text,
-    second: &'w Text,
+    words: WhyWords<'w>,
 ) -> Option<Command<'w>>
-    ensures { let words = name.now ∷ option.now ∷ workers.now ∷ graph.now ∷ keys.now ∷ first.now ∷ second.now ∷ [] in
-        MatchOption result (wanted words ≡ None) (IsCommand words) }
+    ensures { let all = name.now ∷ option.now ∷ workers.now ∷ words.entry.files.graph.now ∷ words.entry.files.keys.now ∷ words.entry.first.now ∷ words.entry.second.now ∷ [] in
+        MatchOption result (wanted all ≡ None) (IsCommand all) }
 {
     if name.bytes() == b"why".as_slice() && option.bytes() == b"--workers".as_slice() {
         Some(Command::Why {
             workers: workers_to(workers)?,
-            graph,
-            keys,
-            first,
-            second,
+            words,
         })
     } else {
         None
@@ -273,14 +288,21 @@ pub fn read_words<'w>(words: &'w [Text]) -> Option<Command<'w>>
     match words {
         [name] => one_word(name),
         [name, argument] => two_words(name, argument),
-        [name, graph, keys] => chase_command(name, WORKERS, graph, keys),
+        [name, graph, keys] => chase_words(name, WORKERS, GraphAndKeys { graph, keys }),
         [name, first, second, third] => three_files(name, first, second, third),
         [name, second, third, fourth, fifth] => five_words(name, second, third, fourth, fifth),
         [name, option, workers, graph, more, keys] => {
-            grow_command(name, option, workers, graph, more, keys)
+            let files = GrowFiles { graph, more, keys };
+            grow_words(name, option, workers, files)
         }
         [name, option, workers, graph, keys, first, second] => {
-            why_command(name, option, workers, graph, keys, first, second)
+            let files = GraphAndKeys { graph, keys };
+            let words = WhyWords {
+                files,
+                first,
+                second,
+            };
+            why_words(name, option, workers, words)
         }
         _ => None,
     }

@@ -1,0 +1,21 @@
+-- What was judged of the first bytes is true of the file.
+use Rattle.std.proofs.lemmas.Result.{err_from_is_err_and}
+use Rattle.gkey_cmd.proofs.Fronts.{keys_loaded, file_left, keys_end}
+use Rattle.gkey_cmd.proofs.reading.read_keys.Goals as goal
+
+pub returns-in_err-read_keys-clause-ends : goal.returns-in_err-read_keys-clause-ends
+returns-in_err-read_keys-clause-ends g c =
+    let o = c.in-Ok.ensures in
+    let k = c.from_residual in
+    let p = err_from_is_err_and k.result k.ensures.1 in
+    let left = file_left (g.S.Shelf.asked c.load.new.shelf) (g.S.Shelf.held c.args.shelf.now) (g.S.Shelf.rest c.load.new.shelf) c.args.name.now c.args.limits.now.key_bytes _ o.asked o.within o.left in
+    rw (p.1, p.2) (keys_end g.S.Shelf c.args.shelf.now c.load.new.shelf c.args.limits.now c.args.name.now _ _ c.in_err-read_keys.field-0.0 o.count o.bytes c.deref.ensures.value left c.in_err-read_keys.ensures.says)
+
+pub returns-clause-says : goal.returns-clause-says
+returns-clause-says g c =
+    keys_loaded (g.S.Shelf.held c.args.shelf.now) _ c.args.name.now _ _ _ c.in-Ok.ensures.bytes c.deref.ensures.value c.in_ok-read_keys.ensures.says
+
+pub returns-clause-left : goal.returns-clause-left
+returns-clause-left g c =
+    let o = c.in-Ok.ensures in
+    file_left (g.S.Shelf.asked c.load.new.shelf) (g.S.Shelf.held c.args.shelf.now) (g.S.Shelf.rest c.load.new.shelf) c.args.name.now c.args.limits.now.key_bytes _ o.asked o.within o.left
