@@ -11,7 +11,7 @@ A block of none of these sorts is told as such, and makes the status 1.
 
 All commands of a page run one after another in one shell, in a folder of its own, which has docs/, examples/, bench/ and bin/
 of this repository, the program, and no sources, so that bin/gkey finds nothing to build. The commands in NOT_RUN are left out.
-It needs Debian's packages serdi, raptor2-utils and graphviz.
+It needs Debian's packages serdi, raptor2-utils and graphviz; where one is missing, it names it and ends with status 1.
 """
 
 import difflib
@@ -29,8 +29,17 @@ PAGES = ("README.md", "docs/GUIDE.md", "docs/SIZES.md")
 NOT_RUN = {".ci/run": "proves everything, which takes long", "man -l docs/gkey.1": "shows a page on a screen",
            "cd crates/gkey && rt try -- match $PWD/../../examples/albums/graph.nt $PWD/../../examples/albums/keys.gk":
            "compiles the sources, which takes two minutes"}
+# the commands of the pages that not every system has, each with Debian's package of it
+PACKAGES = {"serdi": "serdi", "rapper": "raptor2-utils", "dot": "graphviz"}
 MARK = "==== bench/guide.py ===="
 SECONDS = 600
+
+
+def need(packages):
+    """Ends the script where one of these commands is missing, and names its package."""
+    missing = [package for command, package in packages.items() if shutil.which(command) is None]
+    if missing:
+        sys.exit("packages of Debian that are missing here: " + ", ".join(missing))
 
 
 def blocks_of(text):
@@ -152,6 +161,7 @@ def lost_links():
 
 
 def main():
+    need(PACKAGES)
     built()
     lost = list(lost_links())
     print("".join(each + "\n" for each in lost), end="")

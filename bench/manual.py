@@ -6,7 +6,7 @@ no fault. The completions must name the same commands.
 Usage: bench/manual.py
 
 It ends with status 0 where nothing differs. Status 6, which comes where the system does not hand over the words, is not run.
-It needs Debian's packages man-db, mandoc and serdi.
+It needs Debian's packages man-db, mandoc and serdi; where one is missing, it names it and ends with status 1.
 """
 
 import gzip
@@ -18,11 +18,14 @@ import subprocess
 import sys
 import tempfile
 
+from guide import need
 from timing import PROGRAM, TOP, built
 
 PAGE = TOP / "docs" / "gkey.1"
 ALBUMS = [str(TOP / "examples/albums" / name) for name in ("graph.nt", "keys.gk")]
 NOT_RUN = {"6"}
+# the commands that not every system has, each with Debian's package of it
+PACKAGES = {"man": "man-db", "mandoc": "mandoc", "serdi": "serdi"}
 # where each file of completions/ names the commands
 COMPLETIONS = {"gkey.bash": r'-W "(match [^"]*)"', "_gkey": r"^    '(\S+?):", "gkey.fish": r"__fish_use_subcommand -[al] (\S+)"}
 # of address space, in which the program starts and has no room for its files
@@ -164,6 +167,7 @@ def differences(folder):
 
 
 def main():
+    need(PACKAGES)
     built()
     with tempfile.TemporaryDirectory() as name:
         found = list(differences(pathlib.Path(name)))
