@@ -78,7 +78,9 @@ pub fn prepare_graph<R: Threads + Sync>(
     ensures no_more { OnOk result (¬ (HasMoreCandidates graph patterns.items limit)) }
     ensures stop { IfErr result (IsRightStop graph patterns.items limit) }
 {
-    let Candidates { kept, seeded } = kept_candidates(rt, alloc, threads, &graph, &patterns, limit)?;
+    let Candidates { kept, seeded } = kept_candidates(
+        rt, alloc, threads, &graph, &patterns, limit,
+    )?;
     let setup = Setup::with_keys(alloc, graph, patterns, kept.pairs, kept.keys)?;
     Ok(Prepared { setup, seeded })
 }
