@@ -6,6 +6,7 @@ use Rattle.chase_laws.specs.Candidate.{IsCandidate, IsCandidateCount, AreAscendi
 use Rattle.chase_laws.specs.Chase.{IsAble}
 use Rattle.chase_laws.specs.Pairing.{ArePairedBy}
 use Rattle.paired_search.specs.declared.key_range.KeyRange.{KeyRange}
+use Rattle.pair_filter.specs.Depth.{filter_depth}
 use Rattle.chase_core.specs.Setup.{AreRangesFor}
 
 -- Of so many candidate pairs exactly those that some key pairs to the depth of the filter, ascending, with ranges of keys: every pair that a

@@ -3,6 +3,7 @@ use Rattle.std.proofs.Common.{ℕ, Contains, ◌↔◌}
 use Rattle.std.proofs.lemmas.Result.{IfOk-weaker, IfErr-weaker}
 use Rattle.chase_laws.specs.Candidate.{IsCandidate, IsCandidateCount}
 use Rattle.chase_laws.specs.Pairing.{ArePairedBy}
+use Rattle.pair_filter.specs.Depth.{filter_depth}
 use Rattle.match_run.specs.Parts.{graph_of_parts, HasPartsOf}
 use Rattle.match_run.proofs.OfParts.{of_setup, fewer_too, stop_too}
 use Rattle.match_run.proofs.preparing.prepare.Goals as goal
