@@ -11,7 +11,7 @@ A block of none of these sorts is told as such, and makes the status 1.
 
 All commands of a page run one after another in one shell, in a folder of its own, which has docs/, examples/, bench/ and bin/
 of this repository, the program, and no sources, so that bin/gkey finds nothing to build. The commands in NOT_RUN are left out.
-It needs Debian's packages serdi, raptor2-utils and graphviz; where one is missing, it names it and ends with status 1.
+It needs Debian's packages serdi, raptor2-utils, graphviz and pv; where one is missing, it names it and ends with status 1.
 """
 
 import difflib
@@ -30,7 +30,7 @@ NOT_RUN = {".ci/run": "proves everything, which takes long", "man -l docs/gkey.1
            "cd crates/gkey && rt try -- match $PWD/../../examples/albums/graph.nt $PWD/../../examples/albums/keys.gk":
            "compiles the sources, which takes two minutes"}
 # the commands of the pages that not every system has, each with Debian's package of it
-PACKAGES = {"serdi": "serdi", "rapper": "raptor2-utils", "dot": "graphviz"}
+PACKAGES = {"serdi": "serdi", "rapper": "raptor2-utils", "dot": "graphviz", "pv": "pv"}
 MARK = "==== bench/guide.py ===="
 SECONDS = 600
 

@@ -281,7 +281,7 @@ CASES = [
                          ("terms", many_terms), ("steps", many_steps))),
     Case("64 keys of 16 nodes that nearly fit", nearly_fitting, many_keys()),
     Case("a ring of 2^18 and a key with one of 14", long_ring, ring_key(14)),
-    *(Case(f"{n} who all know each other, {n + 1} asked for", lambda out, n=n: clique(out, n), ring_key(n + 1)) for n in range(4, 10)),
+    *(Case(f"{n} who all know each other, {n + 1} asked for", lambda out, n=n: clique(out, n), ring_key(n + 1)) for n in range(4, 11)),
     *(Case(f"{n} who all know each other, {n + 1} asked for as entities", lambda out, n=n: clique(out, n), ring_key(n + 1, "entity"))
       for n in range(7, 12)),
 ]
