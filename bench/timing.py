@@ -9,9 +9,11 @@ import subprocess
 import sys
 from typing import NamedTuple
 
+from asking import asks_help
+
 TOP = pathlib.Path(__file__).resolve().parent.parent
-PROGRAM = pathlib.Path(os.environ.get("GKEY")
-                       or subprocess.run([TOP / "bin" / "program"], stdout=subprocess.PIPE, text=True, check=True).stdout.strip()).resolve()
+PROGRAM = pathlib.Path(os.environ.get("GKEY") or ("" if asks_help() else subprocess.run(
+    [TOP / "bin" / "program"], stdout=subprocess.PIPE, text=True, check=True).stdout.strip())).resolve()
 
 
 class Run(NamedTuple):
