@@ -3,6 +3,8 @@
 than those of one worker.
 
 Usage: bench/agreeing.py [RUNS]   (200, if no number is given)
+
+It makes graphs of six kinds in a temporary folder, needs nothing but the program, and prints a line for each graph.
 """
 
 import pathlib
@@ -10,6 +12,7 @@ import subprocess
 import sys
 import tempfile
 
+from asking import asked
 from graphs import written
 from timing import PROGRAM, TOP, built
 
@@ -32,7 +35,8 @@ def agree(name, graph, keys, runs):
 
 
 def main():
-    runs = int(sys.argv[1]) if len(sys.argv) > 1 else 200
+    words = asked(__doc__)
+    runs = int(words[0]) if words else 200
     built()
     for graph in sorted((TOP / "examples").glob("*/graph.nt")):
         agree(graph.parent.name, graph, graph.parent / "keys.gk", runs)

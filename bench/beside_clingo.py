@@ -5,6 +5,9 @@ Usage: bench/beside_clingo.py [KIND SIZE ..]
 
 The kinds are those of bench/graphs.py. Both must find the same classes. Times are seconds of processor time, one run each; a run
 of clingo is ended after ten minutes. What this script takes to write the graph as facts is not counted.
+
+It makes graphs, and the rules for clingo, in a temporary folder; needs Debian's package gringo, which it names where it is
+missing; and prints a line for each graph.
 """
 
 import os
@@ -15,9 +18,11 @@ import tempfile
 import threading
 
 import plain
+from asking import asked, need
 from graphs import written
 from timing import PROGRAM, built, planned, timed
 
+PACKAGES = {"clingo": "gringo"}
 MOST_SECONDS = 600
 PLAN = [("crowded", 10 ** 5), ("bibliography", 10 ** 5), ("missed", 10 ** 6), ("matched", 10 ** 5), ("woken", 10 ** 6),
         ("chain", 10 ** 4)]
@@ -115,10 +120,12 @@ def measure(folder, kind, size):
 
 
 def main():
+    words = asked(__doc__)
+    need(PACKAGES)
     built()
     print(f"{'graph':>13} {'size':>9} {'gkey':>9} {'clingo':>9}")
     with tempfile.TemporaryDirectory() as folder:
-        for kind, size in planned(sys.argv[1:], PLAN):
+        for kind, size in planned(words, PLAN):
             measure(pathlib.Path(folder), kind, size)
 
 

@@ -6,13 +6,15 @@ Usage: bench/checking.py [--before PROGRAM] [KIND SIZE ..]
 The kinds are those of bench/graphs.py. The proofs are those that `gkey prove` makes. With --before, another build of the program
 checks them too, in turn with this one, and must say the same. Times are seconds of processor time, each the least of five runs;
 at the end stands the load of the machine.
+
+It makes graphs and proofs in a temporary folder, needs nothing but the program, and prints a line for each graph.
 """
 
 import pathlib
 import subprocess
-import sys
 import tempfile
 
+from asking import asked
 from graphs import written
 from timing import PROGRAM, best_in_turn, built, planned, print_load, print_the_same, programs
 
@@ -37,7 +39,7 @@ def measure(folder, kind, size, compared):
 
 
 def main():
-    compared, words = programs(sys.argv[1:])
+    compared, words = programs(asked(__doc__))
     built()
     names = ["match", "check", "before"][:1 + len(compared)]
     print(f"{'graph':>10} {'size':>8} {'steps':>8}" + "".join(f" {name:>8} {'MB':>6}" for name in names))

@@ -6,6 +6,8 @@ With `--before` another program has to print the same, too: one that always goes
 `way_for` of crates/chase_ways/src/way.rt answers nothing else.
 The matcher here lists whole valuations, joins what coincides and begins again until nothing changes. It works on the
 terms before they are written down, so it reads neither graphs nor keys, and shares nothing with the program.
+
+It makes its cases in a temporary folder, needs nothing but the program, and prints how many agree, or the first that differs.
 """
 
 import itertools
@@ -16,6 +18,7 @@ import sys
 import tempfile
 from typing import NamedTuple, Optional
 
+from asking import asked
 from timing import built, programs
 
 XSD_STRING = "http://www.w3.org/2001/XMLSchema#string"
@@ -214,7 +217,7 @@ def random_key(rng, number, types, predicates, things, literals):
 
 
 def main():
-    compared, words = programs(sys.argv[1:])
+    compared, words = programs(asked(__doc__))
     runs = int(words[0]) if words else 1000
     rng = random.Random(int(words[1]) if len(words) > 1 else 1)
     built()

@@ -11,6 +11,8 @@ longer, or is refused, a line says so. Seconds are by the clock and of processor
 part of memory in use. A line before says how many candidate pairs there are, and how many valuations a chase by signatures
 lists, in how many groups; `--counts PROGRAM` names a program that counts them, which is else built of `programs/way_counts`.
 bench/beside_clingo.py takes the same kinds.
+
+It makes graphs in a temporary folder, needs the kit (`rt`) where no `--counts` is given, and prints a table.
 """
 
 import os
@@ -21,6 +23,7 @@ import sys
 import tempfile
 import time
 
+from asking import asked
 from building import build
 from graphs import line_count, written
 from timing import built, planned, print_load, programs
@@ -65,7 +68,7 @@ def measure(compared, counting, folder, kind, size):
 
 
 def main():
-    compared, words = programs(sys.argv[1:])
+    compared, words = programs(asked(__doc__))
     counting = None
     if words[:1] == ["--counts"]:
         counting, words = pathlib.Path(words[1]).resolve(), words[2:]

@@ -8,14 +8,16 @@ It needs a C compiler, cc. The search takes seconds, and the slow run a minute o
 many terms as long that were not searched for. Each is read twice: as ever, where the system gives a seed for the hashes, and
 where it gives none, so that the hashes are the same in every run. For that a library is loaded before the C library whose
 `getentropy` fails.
+
+It makes two graphs in a temporary folder, and prints the seconds of the four runs.
 """
 
 import pathlib
 import subprocess
-import sys
 import tempfile
 
 import graphs
+from asking import asked
 from timing import PROGRAM, built, timed
 
 # Literals of 16 characters whose hash by std's FoldHasher, from its own first state, lies in a range. The range has fewer
@@ -90,7 +92,8 @@ def seconds(graph, keys, library=None):
 
 
 def main():
-    terms = int(sys.argv[1]) if len(sys.argv) > 1 else 200_000
+    words = asked(__doc__)
+    terms = int(words[0]) if words else 200_000
     built()
     with tempfile.TemporaryDirectory() as name:
         folder = pathlib.Path(name)

@@ -9,6 +9,9 @@ proofs.py does, and a command. In three cases of four one of its files is then b
 What is to be said comes from the formats as docs/FORMATS.md has them: the readers of plain_files.py, the matcher of plain.py
 and the checker of proof_checker.py, which share nothing with the program. Of a proof that the program writes, the checker must
 accept it and it must join what the matcher joins.
+
+It makes its cases in a temporary folder, needs nothing but the program, and prints the cases that differ, and counts of what
+was broken and what was said. The status is 1 where one differs.
 """
 
 import collections
@@ -24,6 +27,7 @@ import plain
 import plain_files
 import proof_checker
 import proofs
+from asking import asked
 from lines import PIECES
 from refused_memory import known
 from timing import PROGRAM, built
@@ -442,11 +446,12 @@ def kind_of(said):
 
 
 def main():
-    cases = int(sys.argv[1]) if len(sys.argv) > 1 else 2000
-    seed = int(sys.argv[2]) if len(sys.argv) > 2 else 1
+    words = asked(__doc__)
+    cases = int(words[0]) if words else 2000
+    seed = int(words[1]) if len(words) > 1 else 1
     built()
     usage = subprocess.run([PROGRAM], capture_output=True).stderr
-    commands = sys.argv[3:] or [command for command in known() if command in COMMANDS]
+    commands = words[2:] or [command for command in known() if command in COMMANDS]
     rng, counts, said, different = random.Random(seed), collections.Counter(), collections.Counter(), 0
     with tempfile.TemporaryDirectory() as folder:
         for number in range(cases):

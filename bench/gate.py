@@ -6,6 +6,8 @@ Usage: bench/gate.py [WORDS]
 The words are those of `rt ci`: --anew proves and tries all, whatever earlier runs on this machine have kept. Seconds are of
 processor time, of all processes together, as they are seen twice a second; a process is left out whose last half second no look
 fell in. The gate's own lines come first. The status is that of the gate.
+
+It makes what `rt ci` makes, needs the kit (`rt`), and prints a table by crate.
 """
 
 import collections
@@ -14,6 +16,8 @@ import pathlib
 import subprocess
 import sys
 import time
+
+from asking import asked
 
 
 TOP = pathlib.Path(__file__).resolve().parent.parent
@@ -50,7 +54,8 @@ def part_of(words):
 
 
 def main():
-    gate = subprocess.Popen(["rt", "ci", *sys.argv[1:]], cwd=TOP)
+    words = asked(__doc__)
+    gate = subprocess.Popen(["rt", "ci", *words], cwd=TOP)
     ticks = {}
     while gate.poll() is None:
         for process, words, taken in below(gate.pid):

@@ -7,12 +7,14 @@ The kinds are those of bench/graphs.py. With no words: a catalogue of 10^6 tripl
 graph the last hundredth is what is added.
 The columns are seconds of processor time of `match` on the first graph, of `match` on both together, and of `grow`, and the
 greatest part of memory that `grow` had in use. What both print is compared.
+
+It makes graphs in a temporary folder, needs nothing but the program, and prints a line for each.
 """
 
 import pathlib
-import sys
 import tempfile
 
+from asking import asked
 from graphs import line_count, parted, written
 from timing import PROGRAM, best_in_turn, built, planned, print_the_same
 
@@ -33,10 +35,11 @@ def measure(folder, kind, size):
 
 
 def main():
+    words = asked(__doc__)
     built()
     print(COLUMNS.format("graph", "size", "first", "more", "match 1st", "match both", "grow", "peak MB"))
     with tempfile.TemporaryDirectory() as folder:
-        for kind, size in planned(sys.argv[1:], PLAN):
+        for kind, size in planned(words, PLAN):
             measure(pathlib.Path(folder), kind, size)
 
 

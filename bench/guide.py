@@ -12,6 +12,8 @@ A block of none of these sorts is told as such, and makes the status 1.
 All commands of a page run one after another in one shell, in a folder of its own, which has docs/, examples/, bench/ and bin/
 of this repository, the program, and no sources, so that bin/gkey finds nothing to build. The commands in NOT_RUN are left out.
 It needs Debian's packages serdi, raptor2-utils, graphviz and pv; where one is missing, it names it and ends with status 1.
+
+It prints what differs, and for each page how many commands are as shown.
 """
 
 import difflib
@@ -23,6 +25,7 @@ import subprocess
 import sys
 import tempfile
 
+from asking import asked, need
 from timing import PROGRAM, TOP, built
 
 PAGES = ("README.md", "docs/GUIDE.md", "docs/SIZES.md")
@@ -33,13 +36,6 @@ NOT_RUN = {".ci/run": "proves everything, which takes long", "man -l docs/gkey.1
 PACKAGES = {"serdi": "serdi", "rapper": "raptor2-utils", "dot": "graphviz", "pv": "pv"}
 MARK = "==== bench/guide.py ===="
 SECONDS = 600
-
-
-def need(packages):
-    """Ends the script where one of these commands is missing, and names its package."""
-    missing = [package for command, package in packages.items() if shutil.which(command) is None]
-    if missing:
-        sys.exit("packages of Debian that are missing here: " + ", ".join(missing))
 
 
 def blocks_of(text):
@@ -161,12 +157,13 @@ def lost_links():
 
 
 def main():
+    words = asked(__doc__)
     need(PACKAGES)
     built()
     lost = list(lost_links())
     print("".join(each + "\n" for each in lost), end="")
     failed = len(lost) > 0
-    for page in sys.argv[1:] or [page for page in PAGES if (TOP / page).exists()]:
+    for page in words or [page for page in PAGES if (TOP / page).exists()]:
         with tempfile.TemporaryDirectory() as name:
             right, wrong = judged(page, copied(pathlib.Path(name)))
         print(f"{page}: {right} as shown, {wrong} not")

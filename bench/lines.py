@@ -5,6 +5,9 @@ Usage: bench/lines.py [RUNS [SEED [FOLDER]]]. It ends with status 0 where every 
 The lines are those of the graphs in examples/, or of the .nt files in FOLDER (as those of the W3C's test suite), each with up
 to three changes: bytes put in, taken out, replaced or repeated. The expression is that of RDF 1.1 N-Triples, section 7, with
 an IRI that begins with a scheme and escapes that name characters; it shares nothing with the program.
+
+It makes a graph of one line at a time, needs nothing but the program, and prints the lines that are judged otherwise, and how
+many were accepted.
 """
 
 import pathlib
@@ -15,6 +18,7 @@ import sys
 import tempfile
 
 import graphs
+from asking import asked
 from timing import PROGRAM, TOP, built
 
 BASE = ("A-Za-z\u00C0-\u00D6\u00D8-\u00F6\u00F8-\u02FF\u0370-\u037D\u037F-\u1FFF\u200C-\u200D\u2070-\u218F\u2C00-\u2FEF\u3001-\uD7FF"
@@ -83,8 +87,8 @@ def changed(choose, line):
 
 
 def main():
+    words = asked(__doc__)
     built()
-    words = sys.argv[1:]
     runs = int(words[0]) if words else 2000
     seed = int(words[1]) if len(words) > 1 else 1
     home = pathlib.Path(words[2]) if len(words) > 2 else TOP / "examples"

@@ -7,6 +7,8 @@ Usage: bench/manual.py
 
 It ends with status 0 where nothing differs. Status 6, which comes where the system does not hand over the words, is not run.
 It needs Debian's packages man-db, mandoc and serdi; where one is missing, it names it and ends with status 1.
+
+It makes small files in a temporary folder, and prints each difference.
 """
 
 import gzip
@@ -18,7 +20,7 @@ import subprocess
 import sys
 import tempfile
 
-from guide import need
+from asking import asked, need
 from timing import PROGRAM, TOP, built
 
 PAGE = TOP / "docs" / "gkey.1"
@@ -167,6 +169,7 @@ def differences(folder):
 
 
 def main():
+    asked(__doc__)
     need(PACKAGES)
     built()
     with tempfile.TemporaryDirectory() as name:

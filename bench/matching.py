@@ -6,12 +6,14 @@ Usage: bench/matching.py [--before PROGRAM] [KIND SIZE ..]
 The kinds are those of bench/graphs.py. With no words: catalogues of 10^4, 10^5 and 10^6 triples and chains of 10^3 and 10^4
 pairs. With `--before` another program runs the same in turn, and what both print is compared. Seconds are of processor time,
 each the least of three.
+
+It makes graphs in a temporary folder, needs nothing but the program, and prints a line for each.
 """
 
 import pathlib
-import sys
 import tempfile
 
+from asking import asked
 from graphs import line_count, written
 from timing import best_in_turn, built, planned, print_the_same, programs
 
@@ -28,7 +30,7 @@ def measure(compared, folder, kind, size):
 
 
 def main():
-    compared, words = programs(sys.argv[1:])
+    compared, words = programs(asked(__doc__))
     built()
     print(COLUMNS.format("program", "graph", "size", "triples", "seconds", "peak MB"))
     with tempfile.TemporaryDirectory() as folder:

@@ -7,12 +7,14 @@ The kinds are those of bench/graphs.py. A catalogue's size is about the number o
 each of its size. With --before, another build of the program merges in turn with this one, and must print the same bytes. Times
 are seconds of processor time, each the least of five runs; `sort -u` compares bytes and has one thread. `times` is how often the
 time of `match` holds that of `merge`. At the end stands the load of the machine.
+
+It makes graphs in a temporary folder, needs nothing but the program, and prints a line for each.
 """
 
 import pathlib
-import sys
 import tempfile
 
+from asking import asked
 from graphs import written
 from timing import PROGRAM, best_in_turn, built, planned, print_load, print_the_same, programs
 
@@ -30,7 +32,7 @@ def measure(folder, kind, size, compared):
 
 
 def main():
-    compared, words = programs(sys.argv[1:])
+    compared, words = programs(asked(__doc__))
     built()
     names = ["match", "sort -u", "merge", "before"][:2 + len(compared)]
     print(f"{'graph':>10} {'size':>8} {'times':>6}" + "".join(f" {name:>8} {'MB':>6}" for name in names))

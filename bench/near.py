@@ -6,6 +6,8 @@ Usage: bench/near.py [TRIPLES ..]
 With no words: 10^5, 3 * 10^5 and 10^6 triples. Seconds are processor time, the best of three runs of the program and one
 run of bench/plain.py, whose report has to be the same. The candidate pairs and the lengths of the near lists are counted
 by bench/plain.py from their definitions, since the program does not print them.
+
+It makes graphs in a temporary folder, needs nothing but the program, and prints a line for each.
 """
 
 import pathlib
@@ -15,6 +17,7 @@ import tempfile
 
 import graphs
 import plain
+from asking import asked
 from timing import PROGRAM, TOP, best_of_three, built, timed
 
 COLUMNS = "{:>10} {:>9} {:>8} {:>10} {:>9} {:>9} {:>9} {:>10} {:>6} {:>9}"
@@ -41,10 +44,11 @@ def measure(folder, size):
 
 
 def main():
+    words = asked(__doc__)
     built()
     print(COLUMNS.format("triples", "seconds", "peak MB", "plain s", "plain MB", "pairs", "lists", "entries", "mean", "greatest"))
     with tempfile.TemporaryDirectory() as folder:
-        for size in [int(word) for word in sys.argv[1:]] or [10 ** 5, 3 * 10 ** 5, 10 ** 6]:
+        for size in [int(word) for word in words] or [10 ** 5, 3 * 10 ** 5, 10 ** 6]:
             measure(pathlib.Path(folder), size)
 
 

@@ -6,12 +6,15 @@ Usage: bench/pairs.py [--before PROGRAM] [KIND SIZE ..]
 
 The kinds are those of bench/graphs.py. With --before, another build of the program runs in turn with this one, and both must
 print the same bytes.
+
+It makes graphs in a temporary folder, needs nothing but the program, and prints for each seconds of processor time, the least
+of three, and megabytes.
 """
 
 import pathlib
-import sys
 import tempfile
 
+from asking import asked
 from graphs import written
 from timing import best_in_turn, built, planned, print_the_same, programs
 
@@ -29,7 +32,7 @@ def measure(folder, kind, size, compared):
 
 
 def main():
-    compared, words = programs(sys.argv[1:])
+    compared, words = programs(asked(__doc__))
     built()
     print(f"{'graph':>13} {'size':>9}" + f" {'seconds':>9} {'MB':>6}" + (f" {'before':>9} {'MB':>6}" if len(compared) > 1 else ""))
     with tempfile.TemporaryDirectory() as folder:

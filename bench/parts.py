@@ -6,6 +6,8 @@ Usage: bench/parts.py
 Candidate pairs: entities of one type, of which 2, 10 or 1,000 share each value, and with a second value that two share.
 Classes: names that are joined one by one in random order into one class.
 Report: 330,000 names, of which 82,500 stand in classes of two, by 1, 2 and 4 threads on as many processors.
+
+It makes three programs in a temporary folder, needs the kit (`rt`), and prints three tables.
 """
 
 import pathlib
@@ -13,6 +15,7 @@ import statistics
 import subprocess
 import tempfile
 
+from asking import asked
 from building import build
 
 SEEDS = [(10 ** 5, 2, "one"), (10 ** 6, 2, "one"), (10 ** 5, 10, "one"), (10 ** 6, 10, "one"), (10 ** 5, 1000, "one"),
@@ -29,6 +32,7 @@ def best(command):
 
 
 def main():
+    asked(__doc__)
     with tempfile.TemporaryDirectory() as name:
         program = build(pathlib.Path(name), "seed_times", ["pair_seed", "typed_graph", "chase_laws", "gk_base", "anyhow"])
         print("{:>10} {:>6} {:>7} {:>10} {:>9} {:>9} {:>8}".format("entities", "share", "values", "pairs", "graph ms", "pairs ms", "ns/pair"))

@@ -9,6 +9,8 @@ the least. `MB` is the greatest part of memory in use. `times` is how often the 
 middle of the ratios of runs that stood side by side, and the ratio of the least. --program names a build of the measuring program
 that is there already. --spread runs the program in the system's real-time class (`chrt`, which needs the right to), so that each
 thread that can run has a processor at once. At the end stands the load of the machine.
+
+It makes graphs in a temporary folder, needs the kit (`rt`) where no `--program` is given, and prints a table.
 """
 
 import os
@@ -18,6 +20,7 @@ import subprocess
 import sys
 import tempfile
 
+from asking import asked
 from building import build
 from graphs import written
 from timing import on_processors, planned, print_load, spread
@@ -58,7 +61,7 @@ def measure(program, folder, kind, size, is_spread):
 
 
 def main():
-    is_spread, words = spread(sys.argv[1:])
+    is_spread, words = spread(asked(__doc__))
     given = None
     if words[:1] == ["--program"]:
         given, words = pathlib.Path(words[1]), words[2:]

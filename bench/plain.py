@@ -5,12 +5,16 @@ Usage: bench/plain.py GRAPH KEYS
 
 It prints the report, as `gkey match` does. It knows of N-Triples and of keys only what the graphs and keys of graphs.py
 need: one blank between the parts of a line, no escapes, no folded values.
+
+It makes nothing, and needs Python alone.
 """
 
 import collections
 import itertools
 import sys
 from typing import NamedTuple
+
+from asking import asked
 
 TYPE = "<http://www.w3.org/1999/02/22-rdf-syntax-ns#type>"
 
@@ -186,9 +190,10 @@ def near_lengths(graph, keys):
 
 
 def main():
-    with open(sys.argv[1], encoding="utf-8") as lines:
+    graph_path, keys_path = asked(__doc__)
+    with open(graph_path, encoding="utf-8") as lines:
         graph = read_graph(lines)
-    with open(sys.argv[2], encoding="utf-8") as text:
+    with open(keys_path, encoding="utf-8") as text:
         keys = read_keys(text.read())
     matcher = Matcher(graph, keys)
     matcher.chase()

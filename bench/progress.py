@@ -3,6 +3,8 @@
 two seconds, on a terminal alone, and is gone before anything else is written.
 
 Usage: bench/progress.py. It ends with status 0 where each run writes what it should.
+
+It makes nothing, needs nothing but the program, and prints a line for each run.
 """
 
 import os
@@ -13,6 +15,7 @@ import sys
 import threading
 import time
 
+from asking import asked
 from timing import PROGRAM, TOP, built
 
 GRAPH = (TOP / "examples/albums/graph.nt").read_bytes()
@@ -67,6 +70,7 @@ def elsewhere(graph, late):
 
 
 def main():
+    asked(__doc__)
     built()
     wrong = 0
     for name, graph, late, wanted in RUNS:

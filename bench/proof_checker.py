@@ -5,11 +5,15 @@ Usage: bench/proof_checker.py GRAPH KEYS PROOF
 
 It prints what `gkey check` prints: `accepted N`, `rejected STEP: REASON`, or, to the error stream, `proof:LINE: FAULT`. The
 statuses are 0, 1 and 2. Graph and key file must be ones that the program accepts: their faults are not looked for.
+
+It makes nothing, and needs Python alone.
 """
 
 import re
 import sys
 from typing import NamedTuple, Optional
+
+from asking import asked
 
 TYPE = ("iri", "http://www.w3.org/1999/02/22-rdf-syntax-ns#type")
 XSD_STRING = "http://www.w3.org/2001/XMLSchema#string"
@@ -413,7 +417,7 @@ def judged(graph, keys, proof):
 
 
 def main():
-    files = [open(name, "rb").read() for name in sys.argv[1:4]]
+    files = [open(name, "rb").read() for name in asked(__doc__)]
     status, output, error = judged(*files)
     sys.stdout.buffer.write(output)
     sys.stderr.buffer.write(error)

@@ -4,6 +4,8 @@ and `gkey check` on proofs that were changed at random.
 
 Usage: bench/proofs.py [GRAPHS [CHANGED [SEED]]]. It ends with status 0 where both say the same of every proof: accepted, the
 same line and fault, or the same step and reason.
+
+It makes its cases in a temporary folder, needs nothing but the program, and prints how many agree, or the first that differs.
 """
 
 import collections
@@ -16,6 +18,7 @@ from typing import NamedTuple
 
 import compare
 import proof_checker
+from asking import asked
 from timing import PROGRAM, built
 
 
@@ -184,9 +187,10 @@ def accept(case, files):
 
 
 def main():
-    graphs = int(sys.argv[1]) if len(sys.argv) > 1 else 1000
-    changes = int(sys.argv[2]) if len(sys.argv) > 2 else 1000
-    rng = random.Random(int(sys.argv[3]) if len(sys.argv) > 3 else 1)
+    words = asked(__doc__)
+    graphs = int(words[0]) if words else 1000
+    changes = int(words[1]) if len(words) > 1 else 1000
+    rng = random.Random(int(words[2]) if len(words) > 2 else 1)
     built()
     with_steps, said = [], collections.Counter()
     with tempfile.TemporaryDirectory() as folder:

@@ -74,8 +74,8 @@ def make_graph(path, count):
 
 
 def main():
-    parser = argparse.ArgumentParser(description="Measures the reader of N-Triples beside serdi.")
-    parser.add_argument("--lines", type=int, default=1000000)
+    parser = argparse.ArgumentParser(description=__doc__, usage=argparse.SUPPRESS, formatter_class=argparse.RawDescriptionHelpFormatter)
+    parser.add_argument("--lines", type=int, default=1000000, help="how many lines are made")
     parser.add_argument("--file", help="measure this file in place of a made one")
     given = parser.parse_args()
     with tempfile.TemporaryDirectory() as name:

@@ -6,15 +6,18 @@ Usage: bench/reading_and_numbering.py [--before PROGRAM] [MILLIONS ..]   (1 2 4,
 It needs Debian's packages serdi and raptor2-utils. The tools run in turn, five times each, and the best run of each
 counts. `serdi` and `rapper` only parse; `gkey` also numbers every term and builds the graph's indexes. With `--before` another
 gkey runs among them.
+
+It makes graphs in a temporary folder, and prints a line for each tool and size.
 """
 
 import pathlib
-import sys
 import tempfile
 
 import graphs
+from asking import asked, need
 from timing import best_in_turn, built, programs
 
+PACKAGES = {"serdi": "serdi", "rapper": "raptor2-utils"}
 COLUMNS = "{:>10} {:>8} {:>10} {:>10} {:>12} {:>10} {:>10}"
 
 
@@ -26,7 +29,8 @@ def tools(compared, graph, keys):
 
 
 def main():
-    compared, words = programs(sys.argv[1:])
+    compared, words = programs(asked(__doc__))
+    need(PACKAGES)
     built()
     sizes = [float(word) for word in words] or [1, 2, 4]
     print(COLUMNS.format("triples", "MB", "tool", "seconds", "triples/s", "MB/s", "peak MB"))

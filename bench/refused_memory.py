@@ -8,6 +8,8 @@ Each run must end within the time with what the command writes when nothing is r
 may also write another proof, if a plain checker accepts it and it joins the same. Any other end is told, and makes the status
 1. The calls for memory are those that the process makes of the C library, which an allocator loaded before it counts and
 refuses (programs/refusing_memory.c, compiled here by `cc`). Where the words are not yet read, status 5 comes without a text.
+
+It makes graphs and the allocator in a temporary folder, needs `cc`, and prints for each command how its runs ended.
 """
 
 import collections
@@ -22,6 +24,7 @@ from typing import NamedTuple
 import graphs
 import proof_checker
 import proofs
+from asking import asked
 from timing import PROGRAM, TOP, built
 
 SECONDS = 60
@@ -191,18 +194,18 @@ def told(words, what, ends, whole):
 
 
 def main():
+    commands = asked(__doc__) or known()
     built()
-    asked = sys.argv[1:] or known()
     rows = []
     with tempfile.TemporaryDirectory() as name:
         folder = pathlib.Path(name)
         refuser, examples = Refuser(folder), on_examples(folder)
-        if strange := set(asked) - {words[0] for words in examples}:
+        if strange := set(commands) - {words[0] for words in examples}:
             sys.exit("no run of " + ", ".join(sorted(strange)))
-        for words in (words for words in examples if words[0] in asked):
+        for words in (words for words in examples if words[0] in commands):
             whole = refuser.end(words)
             rows += [told(words, what, refuser.in_turn(words, variable), whole) for what, variable in REFUSALS]
-        for words in (words for words in on_a_chain(folder) if words[0] in asked):
+        for words in (words for words in on_a_chain(folder) if words[0] in commands):
             whole = end_of(words)
             rows.append(told(words, "bytes of address space", with_more_space(words, whole), whole))
     runs, wrong = (sum(numbers) for numbers in zip(*rows))

@@ -4,6 +4,8 @@ with a stand-in for the kit that proves nothing.
 
 Usage: bench/shipped.py. It ends with status 0 where all goes as it should. The program that it ships is the one of `bin/gkey`. It needs
 Debian's packages man-db and dpkg, and root, to be somebody who may not write in a copy.
+
+It makes copies of the repository in a temporary folder, and prints a line for each trial.
 """
 
 import os
@@ -14,6 +16,7 @@ import subprocess
 import sys
 import tempfile
 
+from asking import asked
 from timing import PROGRAM, TOP
 
 MATCH = ["match", "examples/albums/graph.nt", "examples/albums/keys.gk"]
@@ -226,6 +229,7 @@ def installed(room):
 
 
 def main():
+    asked(__doc__)
     wrong = 0
     with tempfile.TemporaryDirectory() as folder:
         for part in (plain, at_once, read_only, changed, elsewhere, compared, installed):

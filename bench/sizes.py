@@ -21,6 +21,7 @@ import tempfile
 import time
 from typing import NamedTuple
 
+from asking import asked
 from graphs import SITE, line_count, members, parted, written
 from timing import PROGRAM, TOP, built
 
@@ -148,7 +149,7 @@ def tables(folder, share):
 
 
 def main():
-    words = sys.argv[1:]
+    words = asked(__doc__)
     built()
     with tempfile.TemporaryDirectory() as name:
         text = tables(pathlib.Path(name), 100 if "--small" in words else 1)

@@ -13,10 +13,10 @@ import itertools
 import os
 import pathlib
 import subprocess
-import sys
 import tempfile
 from typing import NamedTuple
 
+from asking import asked
 from graphs import NO_KEY, TYPE
 from timing import PROGRAM, Run, built
 
@@ -318,10 +318,11 @@ def tried(case, folder):
 
 
 def main():
+    words = asked(__doc__)
     built()
     print(f"{'graph and keys':>55} {'command':>8} {'seconds':>8} {'MB':>7} {'status':>7} {'bytes':>10}  says")
     for case in CASES:
-        if not sys.argv[1:] or any(word in case.name for word in sys.argv[1:]):
+        if not words or any(word in case.name for word in words):
             with tempfile.TemporaryDirectory() as folder:
                 tried(case, pathlib.Path(folder))
 

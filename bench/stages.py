@@ -12,14 +12,16 @@ the chase, and `ns` the nanoseconds that the chase takes for each kept pair.
 `all` is the chase over all candidate pairs, none of them filtered and each searched by all keys: the filter pays where `filter`
 and `chase` are less together. `times` is how often the time of one worker holds that of so many, in the chase and in the whole
 run. --spread is that of `phases.py`. At the end stands the load of the machine.
+
+It makes graphs in a temporary folder, needs the kit (`rt`), and prints a table.
 """
 
 import pathlib
 import subprocess
-import sys
 import tempfile
 import time
 
+from asking import asked
 from building import build
 from graphs import written
 from timing import PROGRAM, built, on_processors, planned, print_load, spread
@@ -62,7 +64,7 @@ def measure(program, folder, kind, size, is_spread):
 
 
 def main():
-    is_spread, words = spread(sys.argv[1:])
+    is_spread, words = spread(asked(__doc__))
     built()
     with tempfile.TemporaryDirectory() as name:
         folder = pathlib.Path(name)

@@ -5,6 +5,8 @@ Usage: bench/suite.py FOLDER
 
 FOLDER has the suite's files, as test/NTriplesTests of the source of Debian's package serd does (`apt-get source serd`). A file
 with `bad` in its name is to be refused with a line of the graph, and any other accepted. The exit status is 1 where one is not.
+
+It makes nothing, needs nothing but the program and the suite, and prints how many are judged rightly, and which are not.
 """
 
 import pathlib
@@ -13,6 +15,7 @@ import sys
 import tempfile
 
 import graphs
+from asking import asked
 from timing import PROGRAM, built
 
 
@@ -24,8 +27,9 @@ def is_right(graph, keys):
 
 
 def main():
+    folder, = asked(__doc__)
     built()
-    files = sorted(pathlib.Path(sys.argv[1]).glob("*.nt"))
+    files = sorted(pathlib.Path(folder).glob("*.nt"))
     with tempfile.TemporaryDirectory() as folder:
         keys = pathlib.Path(folder) / "keys.gk"
         keys.write_text(graphs.NO_KEY)

@@ -8,14 +8,16 @@ rounds (9 where none is given), and of each the median counts, since in the best
 of the machine stands at the end. A lock that serves in order waits for who is next even where that thread has no processor,
 so other programs change its figures by orders of magnitude: the command is put before each run, as `chrt -f 5`, which keeps
 other programs off the processors. It needs `rustc`.
+
+It makes two programs in a temporary folder, needs the kit (`rt`) and `rustc`, and prints a table.
 """
 
 import pathlib
 import statistics
 import subprocess
-import sys
 import tempfile
 
+from asking import asked
 from building import build
 from timing import TOP, print_load
 
@@ -35,8 +37,9 @@ def steps_of_a_microsecond(before, program):
 
 
 def main():
-    rounds = int(sys.argv[1]) if len(sys.argv) > 1 else 9
-    before = sys.argv[2:]
+    words = asked(__doc__)
+    rounds = int(words[0]) if words else 9
+    before = words[1:]
     with tempfile.TemporaryDirectory() as name:
         folder = pathlib.Path(name)
         program = build(folder, "turn_times", ["turn_lock", "anyhow"])

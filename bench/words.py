@@ -3,11 +3,14 @@
 
 Usage: bench/words.py. It ends with status 0 where each run ends as it should: a name of a file that is not UTF-8 is one
 that can't be read, and any other such word makes the words no command.
+
+It makes nothing, needs nothing but the program, and prints each run that ends otherwise.
 """
 
 import subprocess
 import sys
 
+from asking import asked
 from timing import PROGRAM, TOP, built
 
 GRAPH = str(TOP / "examples/albums/graph.nt").encode()
@@ -32,6 +35,7 @@ RUNS = [
 
 
 def main():
+    asked(__doc__)
     built()
     wrong = 0
     for words, status, error in RUNS:
