@@ -1,0 +1,2 @@
+-- what callers of this crate read
+pub mod Sifted
