@@ -2,7 +2,7 @@
 """Compares `gkey match` with a plain matcher on random small graphs and key files.
 
 Usage: bench/compare.py [--before PROGRAM] [RUNS [SEED]]. It ends with status 0 where every report is the same.
-With `--before` another program has to print the same, too: one that always goes by signatures, say, which is this one where
+The program is run with `--large` as well. With `--before` another program has to print the same, too: one that always goes by signatures, say, which is this one where
 `way_for` of crates/chase_ways/src/way.rt answers nothing else.
 The matcher here lists whole valuations, joins what coincides and begins again until nothing changes. It works on the
 terms before they are written down, so it reads neither graphs nor keys, and shares nothing with the program.
@@ -221,6 +221,8 @@ def main():
     runs = int(words[0]) if words else 1000
     rng = random.Random(int(words[1]) if len(words) > 1 else 1)
     built()
+    # (a program before this one may know no --large)
+    ways = [*((program, ["match"]) for program in compared), (compared[0], ["--large", "match"])]
     with_classes = 0
     with tempfile.TemporaryDirectory() as folder:
         graph, keys_file = pathlib.Path(folder) / "graph.nt", pathlib.Path(folder) / "keys.gk"
@@ -231,8 +233,8 @@ def main():
             matcher = Matcher(rows, keys)
             matcher.chase()
             wanted = matcher.report()
-            for program in compared:
-                done = subprocess.run([program, "match", graph, keys_file], capture_output=True)
+            for program, command in ways:
+                done = subprocess.run([program, *command, graph, keys_file], capture_output=True)
                 if (done.returncode, done.stdout, done.stderr) != (0, wanted, b""):
                     sys.exit(f"run {number} differs:\n{graph.read_bytes()!r}\n{keys_file.read_bytes()!r}\n"
                              f"wanted {wanted!r}\ngot {done}")

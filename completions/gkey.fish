@@ -10,5 +10,6 @@ complete -c gkey -n __fish_use_subcommand -a grow -d 'the classes of a graph wit
 complete -c gkey -n __fish_use_subcommand -a demo -d 'counts of a graph that the program makes for itself'
 complete -c gkey -n __fish_use_subcommand -l help -d 'words, limits and statuses'
 complete -c gkey -n __fish_use_subcommand -l version -d 'the version'
+complete -c gkey -n __fish_use_subcommand -l large -d 'the same for graphs beyond the limits'
 complete -c gkey -n '__fish_seen_subcommand_from match prove why check convert merge grow' -F
 complete -c gkey -n '__fish_seen_subcommand_from match prove why merge grow' -l workers -x -d 'how many search, 1 to 64'
