@@ -29,7 +29,7 @@ NOT_RUN = {"6"}
 # the commands that not every system has, each with Debian's package of it
 PACKAGES = {"man": "man-db", "mandoc": "mandoc", "serdi": "serdi"}
 # where each file of completions/ names the commands
-COMPLETIONS = {"gkey.bash": r'-W "(match [^"]*)"', "_gkey": r"^    '(\S+?):", "gkey.fish": r"__fish_use_subcommand -[al] (\S+)"}
+COMPLETIONS = {"gkey.bash": r'-W "(match [^"]* --[^"]*)"', "_gkey": r"^    '(\S+?):", "gkey.fish": r"__fish_use_subcommand -[al] (\S+)"}
 # of address space, in which the program starts and has no room for its files
 LITTLE = 12 << 20
 
@@ -58,9 +58,9 @@ def synopsis():
 def described():
     """The calls that the description explains, without options."""
     for line in section("DESCRIPTION"):
-        found = re.match(r"\.It (?:Cm (\S+) Ar (.*)|Fl (-help|-version))$", line)
+        found = re.match(r"\.It (?:Cm (\S+) Ar (.*)|Fl (-help|-version|-large)(?: Ar (.*))?)$", line)
         if found:
-            yield f"gkey {found[1]} {found[2].upper()}" if found[1] else f"gkey -{found[3]}"
+            yield " ".join(["gkey", *([found[1], found[2].upper()] if found[1] else [f"-{found[3]}", *([found[4].upper()] if found[4] else [])])])
 
 
 def ran(*words, out=subprocess.PIPE, limit=None):

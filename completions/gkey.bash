@@ -1,13 +1,17 @@
 # Completion of gkey's commands and of the files that they read, for bash.
 _gkey() {
-    local word=${COMP_WORDS[COMP_CWORD]} at=$COMP_CWORD files=0 words=("${COMP_WORDS[@]}") more="demo --help --version --large"
+    local word=${COMP_WORDS[COMP_CWORD]} at=$COMP_CWORD files=0 words=("${COMP_WORDS[@]}")
     COMPREPLY=()
     if [[ ${words[1]} == --large ]] && ((at > 1)); then
         words=("${words[0]}" "${words[@]:2}")
-        at=$((at - 1)) more=
+        at=$((at - 1))
+        if ((at == 1)); then
+            mapfile -t COMPREPLY < <(compgen -W "match prove why check convert merge grow" -- "$word")
+            return
+        fi
     fi
     if ((at == 1)); then
-        mapfile -t COMPREPLY < <(compgen -W "match prove why check convert merge grow $more" -- "$word")
+        mapfile -t COMPREPLY < <(compgen -W "match prove why check convert merge grow demo --help --version --large" -- "$word")
         return
     fi
     case ${words[1]} in
