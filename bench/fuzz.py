@@ -41,6 +41,7 @@ FILES = ("graph", "keys", "proof")
 COMMANDS = {"match": (("graph", "keys"), 0), "prove": (("graph", "keys"), 0), "merge": (("graph", "keys"), 0),
             "why": (("graph", "keys"), 2), "check": (FILES, 0), "convert": (("proof",), 0), "demo": ((), 1)}
 WITH_WORKERS = ("match", "prove", "merge", "why")
+LARGE = "--large"
 NO_UTF8 = [b"\xff", b"\xc3", b"\xed\xa0\x80", b"\xf4\x90\x80\x80", b"\xc0\xaf", b"\xe2\x82"]
 COUNTS = [b"0", b"1", b"2", b"3", b"7", b"64", b"65", b"04", b"+4", b"-1", b"", b"x", b"4 ", b"100001", b"18446744073709551617"]
 NO_FILES = [b"none", b"", b".", b"\xff", b"g/k", b"n" * 300, b"--workers"]
@@ -70,9 +71,11 @@ def number_of(word, most):
 
 
 def asked_by(words, commands):
-    """What the words ask for, or None."""
+    """What the words ask for, or None. With `--large` it is the same, and files as small as these have the same answers."""
     command = words[0].decode("latin-1") if words else ""
-    if command not in commands:
+    if command == LARGE and LARGE in commands:
+        return asked_by(words[1:], [each for each in commands if each not in (LARGE, "demo")])
+    if command not in commands or command not in COMMANDS:
         return None
     files, more = COMMANDS[command]
     rest = words[1:]
@@ -378,9 +381,11 @@ def random_case(rng, commands, counts):
         held[b"p"] = random_proof(proofs.Proved(*held.values(), sorted(names)), rng, counts)
     words = [command.encode(), *({"graph": b"g", "keys": b"k", "proof": b"p"}[file] for file in COMMANDS[command][0])]
     words += {"why": pair_words(rows, rng), "demo": [rng.choice(COUNTS[1:6])]}.get(command, [])
+    if LARGE in known() and rng.randrange(4) == 0:
+        words.insert(0, LARGE.encode())
     what = rng.randrange(8)
     if what < 5 and COMMANDS[command][0]:
-        name = rng.choice(words[1:1 + len(COMMANDS[command][0])])
+        name = rng.choice([word for word in words if word in held])
         held[name] = broken(held[name], rng, counts)
     elif what == 5:
         words = broken_words(words, rng, counts)

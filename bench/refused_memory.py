@@ -12,6 +12,7 @@ refuses (programs/refusing_memory.c, compiled here by `cc`). Where the words are
 It makes graphs and the allocator in a temporary folder, needs `cc`, and prints for each command how its runs ended.
 """
 
+import functools
 import collections
 import os
 import pathlib
@@ -50,6 +51,7 @@ class End(NamedTuple):
     threads: int     # that were to be started
 
 
+@functools.cache
 def known():
     """The names of the commands in the program's usage."""
     usage = subprocess.run([PROGRAM], capture_output=True).stderr.decode()
