@@ -12,8 +12,8 @@ refuses (programs/refusing_memory.c, compiled here by `cc`). Where the words are
 It makes graphs and the allocator in a temporary folder, needs `cc`, and prints for each command how its runs ended.
 """
 
-import functools
 import collections
+import functools
 import os
 import pathlib
 import resource
@@ -67,6 +67,7 @@ def on_examples(folder):
     proof = proof_of(MUSIC, folder / "music.gkp")
     return [
         ["match", *ALBUMS],
+        ["--large", "match", *ALBUMS],
         ["match", "--workers", "1", *MUSIC],
         ["match", "--workers", "64", *MUSIC],
         ["prove", *ALBUMS],
