@@ -1,5 +1,5 @@
 -- The commands, and the words that ask for them (this project's own).
-use Rattle.std.specs.Prelude.{List, [], ◌∷◌, ℕ, zero, suc, Bool, true, false, ◌<◌, ◌≤◌, Option, Some, None, option_map, is_some, ◌&&◌, codes, bytes_eq, if◌then◌else◌, ◌≡◌, ⊤}
+use Rattle.std.specs.Prelude.{List, [], ◌∷◌, ℕ, zero, suc, Bool, true, false, ◌<◌, ◌≤◌, Option, Some, None, option_map, is_some, ◌&&◌, codes, bytes_eq, drop, if◌then◌else◌, ◌≡◌, ⊤}
 use Rattle.std.specs.Fmt.{decimal}
 use Rattle.gkey_cmd.specs.declared.file.File.{File}
 use Rattle.gkey_cmd.specs.declared.file.File.TheVariants.{Graph, More, Keys, Proof}
@@ -70,8 +70,7 @@ are_large (word ∷ words) = bytes_eq word (codes "--large")
 
 -- the words without a `--large` that they begin with
 abbrev pub command_words : List (List ℕ) → List (List ℕ)
-command_words [] = []
-command_words (word ∷ words) = if bytes_eq word (codes "--large") then words else word ∷ words
+command_words words = if are_large words then drop 1 words else words
 
 -- a command that goes by files that its words name
 abbrev pub by_named_files : Option Wanted → Option Wanted

@@ -1,6 +1,6 @@
 //! The commands of the program, and the words that ask for them.
 
-ghost use Rattle.std.specs.Prelude.{[], ◌∷◌, ◌≡◌, ◌≤◌, ◌<◌, None, IfSome, MatchOption};
+ghost use Rattle.std.specs.Prelude.{[], ◌∷◌, ◌≡◌, ◌≤◌, ◌<◌, true, false, drop, None, IfSome, MatchOption};
 ghost use Rattle.gkey_cmd.specs.Commands.{plainly_wanted, wanted, are_large, by_named_files, workers_of, chase_of, number_to, IsPlainCommand, IsCommand, IsAsked, IsChaseOf};
 
 use demo_graph::number_of;
@@ -307,14 +307,25 @@ fn plain_words<'w>(words: &'w [Text]) -> Option<Command<'w>>
     }
 }
 
+/// The words behind `--large`, if the words begin with it.
+fn behind_large(words: &[Text]) -> Option<&[Text]>
+    ensures { MatchOption result (are_large words.now ≡ false) (λ others. (are_large words.now ≡ true) × (others.now ≡ drop 1 words.now)) }
+{
+    let [first, others @ ..] = words else {
+        return None;
+    };
+    if first.bytes() == b"--large".as_slice() {
+        Some(others)
+    } else {
+        None
+    }
+}
+
 /// Whether the words begin with `--large`.
 pub(crate) fn are_large(words: &[Text]) -> bool
     ensures { result ≡ are_large words.now }
 {
-    match words {
-        [first, ..] => first.bytes() == b"--large".as_slice(),
-        [] => false,
-    }
+    behind_large(words).is_some()
 }
 
 /// The command that words behind `--large` ask for, if there is one: it is none that goes by no file that the words name.
@@ -333,8 +344,8 @@ fn large_words<'w>(words: &'w [Text]) -> Option<Command<'w>>
 pub fn read_words<'w>(words: &'w [Text]) -> Option<Command<'w>>
     ensures { MatchOption result (wanted words.now ≡ None) (IsCommand words.now) }
 {
-    match words {
-        [_, others @ ..] if are_large(words) => large_words(others),
-        _ => plain_words(words),
+    match behind_large(words) {
+        Some(others) => large_words(others),
+        None => plain_words(words),
     }
 }

@@ -1,6 +1,6 @@
 //! Runs over files in memory, the two albums above all: limits, devices that fail, and demos.
 
-ghost use Rattle.std.specs.Prelude.{◌<◌, ◌×◌, ◌^◌, IfSome, IsTrue};
+ghost use Rattle.std.specs.Prelude.{◌<◌, ◌^◌, IfSome, IsTrue};
 ghost use Rattle.gkey_cmd.specs.Limits.{AreProgramLimits, CanBeKept};
 
 use crate::texts::{album_key, albums};
