@@ -18,7 +18,16 @@ static LARGE: [&[&str]; 11] = [
     &["--large", "grow", "g", "g", "k"],
     &["--large", "match", "--workers", "2", "g", "k"],
     &["--large", "prove", "--workers", "2", "g", "k"],
-    &["--large", "why", "--workers", "2", "g", "k", "<urn:al1>", "<urn:al2>"],
+    &[
+        "--large",
+        "why",
+        "--workers",
+        "2",
+        "g",
+        "k",
+        "<urn:al1>",
+        "<urn:al2>",
+    ],
     &["--large", "grow", "--workers", "2", "g", "g", "k"],
 ];
 
