@@ -1,2 +1,3 @@
 -- what callers of this crate read
 pub mod Ground
+pub mod Limit

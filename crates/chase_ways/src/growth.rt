@@ -3,16 +3,17 @@
 ghost use Rattle.std.specs.Prelude.{◌≡◌, ◌<◌, ◌≤◌, ◌^◌, ◌++◌, List, IfErr, IfOk, IfSome, OnOk, length};
 ghost use Rattle.chase_laws.specs.declared.entry.Entry.{Entry};
 ghost use Rattle.chase_laws.specs.SameRows.{HasRowsOf};
+ghost use Rattle.chase_ways.specs.Limit.{CanBeKept};
 ghost use Rattle.match_run.specs.Classes.{AreClasses, IsFinishedJournal};
 ghost use Rattle.pair_seed.specs.Pairs.{HasMoreCandidates};
 ghost use Rattle.pair_seed.specs.Stop.{IsRightStop};
 
-use crate::way::{Way, check_limit, most_rows, way_for};
+use crate::way::{Way, check_limit, is_counted, most_rows, way_for};
 use crate::whole::by_signatures;
 use chase_core::Matched;
 use chase_laws::Pattern;
 use chase_laws::laws::law_rows;
-use gk_base::NoMemory;
+use gk_base::{NoMemory, Stop};
 use grow_match::{Grown, grow};
 use pair_seed::{SeedStop, bound_candidates};
 use signature_chase::Chased;
@@ -57,8 +58,10 @@ fn grow_signatures<R: Threads + Sync>(
 /// as `grow_match::grow` promises it, in the way that is asked for, or where none is in the one that serves the whole graph. By
 /// signatures it goes on by pairs where there are too many valuations, unless signatures are asked for.
 ///
-/// `TooManyPairs` comes exactly where the whole graph has more candidate pairs than `limit`, and `NoMemory` where memory ran
-/// out.
+/// With the limit `u64::MAX` no pair is counted, and both chases go by signatures, also where pairs are asked for.
+///
+/// `TooManyPairs` comes exactly where the whole graph has more candidate pairs than `limit`, so never with that largest one, and
+/// `NoMemory` where memory ran out.
 pub fn chase_growth<R: Threads + Wait + Sync, G: Gate>(
     rt: &R,
     alloc: Global,
@@ -71,7 +74,7 @@ pub fn chase_growth<R: Threads + Wait + Sync, G: Gate>(
     gate: &G,
 ) -> Result<Grown, SeedStop>
     requires rows { HasRowsOf patterns.items first both }
-    requires limit { limit < 2 ^ 32 }
+    requires limit { CanBeKept limit }
     requires few { length patterns.items < 2 ^ 32 }
     requires workers { (0 < workers) × (workers ≤ 64) }
     ensures old { IfOk result (λ g. IsFinishedJournal first patterns.items g.old.items) }
@@ -81,6 +84,10 @@ pub fn chase_growth<R: Threads + Wait + Sync, G: Gate>(
     ensures no_more { OnOk result (¬ (HasMoreCandidates both patterns.items limit)) }
     ensures stop { IfErr result (IsRightStop both patterns.items limit) }
 {
+    if !is_counted(&both, &patterns, limit) {
+        let grown = grow_signatures(rt, alloc, workers, &first, &both, &patterns, u64::MAX)?;
+        return grown.ok_or(Stop::NoMemory);
+    }
     let most = bound_candidates(alloc, &both, &patterns, limit)?;
     if let Way::Signatures = way.unwrap_or(way_for(both.names(), most)) {
         check_limit(alloc, &both, &patterns, most, limit)?;

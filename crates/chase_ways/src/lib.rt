@@ -1,7 +1,7 @@
 //! The chase of a graph, in whichever way serves it. Where keys make few pairs of names, candidate pairs are searched by workers
 //! (`match_run`); where many names share a value, they would be many more than the names, and the chase goes by signatures of
-//! valuations (`signature_chase`), which makes no pair. Where there are too many valuations, it goes by pairs after all. What
-//! comes of it is the same.
+//! valuations (`signature_chase`), which makes no pair. Where there are too many valuations, it goes by pairs after all. With
+//! the largest limit pairs have no limit: none is counted, and the chase goes by signatures alone. What comes of it is the same.
 //!
 //! - `way`: the two ways, and which one serves
 //! - `ground`: what was chased

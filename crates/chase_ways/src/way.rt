@@ -1,10 +1,11 @@
 //! The two ways, and which one serves a graph.
 
-ghost use Rattle.std.specs.Prelude.{◌<◌, ◌^◌, IfErr, IfOk, IfSome, IsNone, ◌⊎◌};
+ghost use Rattle.std.specs.Prelude.{◌<◌, ◌^◌, IfErr, IfOk, IfSome, IsNone, IsFalse, IsTrue, ◌⊎◌};
+ghost use Rattle.chase_ways.specs.Limit.{CanBeKept};
 ghost use Rattle.pair_seed.specs.Pairs.{HasMoreCandidates};
 ghost use Rattle.pair_seed.specs.Stop.{IsRightStop};
 
-use chase_laws::Pattern;
+use chase_laws::{Pattern, all_valid};
 use pair_seed::{SeedStop, count_candidates};
 use std::alloc::Global;
 use typed_graph::Graph;
@@ -26,6 +27,18 @@ const ROWS_A_PAIR: u64 = 4;
 
 /// That many more at most.
 const MORE_ROWS: u64 = 1 << 20;
+
+/// Whether candidate pairs are counted up to this limit. Where they are not, no graph has more.
+pub(crate) fn is_counted(graph: &Graph, patterns: &[Pattern], limit: u64) -> bool
+    requires limit { CanBeKept limit }
+    ensures counted { IsTrue result → limit < 2 ^ 32 }
+    ensures no_more { IsFalse result → ¬ (HasMoreCandidates graph.now patterns.now limit) }
+{
+    // Facts for the proof: patterns are valid, and names have numbers of 32 bits.
+    all_valid(patterns);
+    let _ = graph.names();
+    limit < 1 << 32
+}
 
 /// The way that serves a graph with so many names, in which there are at most so many candidate pairs, or too many to say. With
 /// more pairs than names signatures take less time, by one worker and by several.

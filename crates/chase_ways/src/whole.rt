@@ -3,12 +3,13 @@
 ghost use Rattle.std.specs.Prelude.{◌≡◌, ◌<◌, ◌≤◌, ◌^◌, ◌++◌, List, IfErr, IfOk, IfSome, OnOk, length};
 ghost use Rattle.chase_laws.specs.declared.entry.Entry.{Entry};
 ghost use Rattle.chase_laws.specs.Chase.{IsDerivation, IsLean};
+ghost use Rattle.chase_ways.specs.Limit.{CanBeKept};
 ghost use Rattle.match_run.specs.Classes.{AreClasses, IsFinishedJournal};
 ghost use Rattle.pair_seed.specs.Pairs.{HasMoreCandidates};
 ghost use Rattle.pair_seed.specs.Stop.{IsRightStop};
 
 use crate::ground::Ground;
-use crate::way::{Way, check_limit, most_rows, way_for};
+use crate::way::{Way, check_limit, is_counted, most_rows, way_for};
 use chase_core::Matched;
 use chase_laws::{Entry, Pattern, all_valid};
 use gk_base::NoMemory;
@@ -112,13 +113,41 @@ fn chase_signatures<R: Threads + Sync>(
     Ok(chased)
 }
 
+/// The chase of a graph by signatures, whatever the number of candidate pairs. Only want of memory stops it.
+fn chase_uncounted<R: Threads + Sync>(
+    rt: &R,
+    alloc: Global,
+    threads: u32,
+    graph: Graph,
+    patterns: Vec<Pattern>,
+) -> Result<Finished, NoMemory>
+    ensures graph { IfOk result (λ f. f.ground.graph ≡ graph) }
+    ensures patterns { IfOk result (λ f. f.ground.patterns ≡ patterns.items) }
+    ensures journal { IfOk result (λ f. IsFinishedJournal graph patterns.items f.journal.items) }
+    ensures classes { IfOk result (λ f. AreClasses graph patterns.items f.labels.items) }
+{
+    let chased = by_signatures(rt, alloc, threads, &graph, &patterns, &[], u64::MAX)?;
+    let Some(Chased { labels, journal }) = chased else {
+        return Err(NoMemory);
+    };
+    let ground = Ground::new(graph, patterns);
+    Ok(Finished {
+        ground,
+        labels,
+        journal,
+    })
+}
+
 /// Chases a graph by the keys' patterns to its end, in the way that is asked for, or where none is in the one that serves the
 /// graph. A chase by signatures goes on by pairs where there are too many valuations, unless signatures are asked for. The labels
 /// are equal exactly where two names are the same, and the journal is a lean derivation beyond which no step goes. `workers` says
 /// how many threads may be used, 1 to 64; by pairs as many workers chase, each of which passes the gate before each search, and
 /// by signatures none passes it.
 ///
-/// `TooManyPairs` comes exactly where there are more candidate pairs than `limit`, and `NoMemory` where memory ran out.
+/// With the limit `u64::MAX` no pair is counted, and the chase goes by signatures, also where pairs are asked for.
+///
+/// `TooManyPairs` comes exactly where there are more candidate pairs than `limit`, so never with that largest one, and `NoMemory`
+/// where memory ran out.
 pub fn chase_graph<R: Threads + Wait + Sync, G: Gate>(
     rt: &R,
     alloc: Global,
@@ -129,7 +158,7 @@ pub fn chase_graph<R: Threads + Wait + Sync, G: Gate>(
     way: Option<Way>,
     gate: &G,
 ) -> Result<Finished, SeedStop>
-    requires limit { limit < 2 ^ 32 }
+    requires limit { CanBeKept limit }
     requires few { length patterns.items < 2 ^ 32 }
     requires workers { (0 < workers) × (workers ≤ 64) }
     ensures graph { IfOk result (λ f. f.ground.graph ≡ graph) }
@@ -139,6 +168,9 @@ pub fn chase_graph<R: Threads + Wait + Sync, G: Gate>(
     ensures no_more { OnOk result (¬ (HasMoreCandidates graph patterns.items limit)) }
     ensures stop { IfErr result (IsRightStop graph patterns.items limit) }
 {
+    if !is_counted(&graph, &patterns, limit) {
+        return Ok(chase_uncounted(rt, alloc, workers, graph, patterns)?);
+    }
     let most = bound_candidates(alloc, &graph, &patterns, limit)?;
     if let Way::Signatures = way.unwrap_or(way_for(graph.names(), most)) {
         let rows = most_rows(graph.names(), most, way);

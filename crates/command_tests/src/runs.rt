@@ -4,7 +4,7 @@
 use fixtures::texts::{ALBUM_KEY, ALBUMS, ALBUMS_MERGED, USAGE};
 use gk_base::{Limits, NoMemory, Text};
 use gk_io::{MemShelf, SureSink};
-use gkey_cmd::run_gated;
+use gkey_cmd::{ProgramLimits, run_gated};
 use std::alloc::Global;
 use std::process::Abort;
 use std::sync::Wait;
@@ -122,6 +122,10 @@ fn status_of<R: AllocGlobal + Threads + Wait + Sync + Abort, G: Gate>(
     }
     let alloc = rt.alloc();
     let mut shelf = shelf_of(alloc, case).expect(rt, ENOUGH);
+    let limits = ProgramLimits {
+        plain: limits,
+        ..ProgramLimits::STANDARD
+    };
     Some(run_gated(rt, alloc, words, &mut shelf, out, err, &limits, gate))
 }
 

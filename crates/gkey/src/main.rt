@@ -10,9 +10,9 @@ mod words;
 
 use crate::searches::Searches;
 use crate::words::{NoWords, words};
-use gk_base::{Limits, Stop};
+use gk_base::Stop;
 use gk_io::{DirShelf, OutSink};
-use gkey_cmd::{NO_MEMORY, NO_WORDS, run_gated};
+use gkey_cmd::{NO_MEMORY, NO_WORDS, ProgramLimits, run_gated};
 use progress::{CountedShelf, Counts, Line, LineSink};
 use std::io::IsTerminal;
 use std::process::ExitCode;
@@ -33,7 +33,7 @@ fn main(rt: HostRuntime) -> ExitCode {
                     // (without a second thread nothing is told)
                     let _ = scope.spawn(|| line.tell(&rt));
                 }
-                let limits = &Limits::STANDARD;
+                let limits = &ProgramLimits::STANDARD;
                 let status = run_gated(
                     &rt,
                     rt.alloc(),

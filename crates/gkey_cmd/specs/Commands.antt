@@ -1,5 +1,5 @@
 -- The commands, and the words that ask for them (this project's own).
-use Rattle.std.specs.Prelude.{List, [], ◌∷◌, ℕ, zero, suc, Bool, ◌<◌, ◌≤◌, Option, Some, None, option_map, is_some, ◌&&◌, codes, bytes_eq, if◌then◌else◌, ◌≡◌, ⊤}
+use Rattle.std.specs.Prelude.{List, [], ◌∷◌, ℕ, zero, suc, Bool, true, false, ◌<◌, ◌≤◌, Option, Some, None, option_map, is_some, ◌&&◌, codes, bytes_eq, drop, if◌then◌else◌, ◌≡◌, ⊤}
 use Rattle.std.specs.Fmt.{decimal}
 use Rattle.gkey_cmd.specs.declared.file.File.{File}
 use Rattle.gkey_cmd.specs.declared.file.File.TheVariants.{Graph, More, Keys, Proof}
@@ -39,29 +39,56 @@ are_workers option workers = bytes_eq option (codes "--workers") && is_some (num
 -- the table of the accepted words: `match GRAPH KEYS` and `match --workers N GRAPH KEYS`, with `prove` and `merge` in the same
 -- two ways, `check GRAPH KEYS PROOF`, `convert PROOF`, `demo N`, `why GRAPH KEYS A B` and `why --workers N GRAPH KEYS A B`,
 -- `grow GRAPH MORE KEYS` and `grow --workers N GRAPH MORE KEYS`, and `--help` and `--version`, each alone
-abbrev pub wanted : List (List ℕ) → Option Wanted
-wanted (command ∷ []) =
+abbrev pub plainly_wanted : List (List ℕ) → Option Wanted
+plainly_wanted (command ∷ []) =
     if bytes_eq command (codes "--help") then Some Helping
     else if bytes_eq command (codes "--version") then Some TellingVersion
     else None
-wanted (command ∷ argument ∷ []) =
+plainly_wanted (command ∷ argument ∷ []) =
     if bytes_eq command (codes "convert") then Some (Converting argument)
     else if bytes_eq command (codes "demo") then option_map Demonstrating (number_to 100000 argument)
     else None
-wanted (command ∷ graph ∷ keys ∷ []) = chase_of command graph keys
-wanted (command ∷ a ∷ b ∷ c ∷ []) =
+plainly_wanted (command ∷ graph ∷ keys ∷ []) = chase_of command graph keys
+plainly_wanted (command ∷ a ∷ b ∷ c ∷ []) =
     if bytes_eq command (codes "check") then Some (Checking a b c)
     else if bytes_eq command (codes "grow") then Some (Growing a b c)
     else None
-wanted (command ∷ a ∷ b ∷ c ∷ d ∷ []) =
+plainly_wanted (command ∷ a ∷ b ∷ c ∷ d ∷ []) =
     if bytes_eq command (codes "why") then Some (Explaining a b c d)
     else if are_workers a b then chase_of command c d
     else None
-wanted (command ∷ option ∷ workers ∷ graph ∷ more ∷ keys ∷ []) =
+plainly_wanted (command ∷ option ∷ workers ∷ graph ∷ more ∷ keys ∷ []) =
     if bytes_eq command (codes "grow") && are_workers option workers then Some (Growing graph more keys) else None
-wanted (command ∷ option ∷ workers ∷ graph ∷ keys ∷ first ∷ second ∷ []) =
+plainly_wanted (command ∷ option ∷ workers ∷ graph ∷ keys ∷ first ∷ second ∷ []) =
     if bytes_eq command (codes "why") && are_workers option workers then Some (Explaining graph keys first second) else None
-wanted words = None
+plainly_wanted words = None
+
+-- the words begin with `--large`
+abbrev pub are_large : List (List ℕ) → Bool
+are_large [] = false
+are_large (word ∷ words) = bytes_eq word (codes "--large")
+
+-- the words without a `--large` that they begin with
+abbrev pub command_words : List (List ℕ) → List (List ℕ)
+command_words words = if are_large words then drop 1 words else words
+
+-- a command that goes by files that its words name
+abbrev pub by_named_files : Option Wanted → Option Wanted
+by_named_files None = None
+by_named_files (Some (Matching graph keys)) = Some (Matching graph keys)
+by_named_files (Some (Proving graph keys)) = Some (Proving graph keys)
+by_named_files (Some (Checking graph keys proof)) = Some (Checking graph keys proof)
+by_named_files (Some (Converting proof)) = Some (Converting proof)
+by_named_files (Some (Demonstrating n)) = None
+by_named_files (Some (Merging graph keys)) = Some (Merging graph keys)
+by_named_files (Some (Explaining graph keys first second)) = Some (Explaining graph keys first second)
+by_named_files (Some (Growing graph more keys)) = Some (Growing graph more keys)
+by_named_files (Some Helping) = None
+by_named_files (Some TellingVersion) = None
+
+-- the accepted words: those of the table, and `--large` before those of a command that goes by files that they name
+abbrev pub wanted : List (List ℕ) → Option Wanted
+wanted words = if are_large words then by_named_files (plainly_wanted (command_words words)) else plainly_wanted words
 
 -- the names that a demo's own two texts go by
 abbrev pub demo_graph_name : List ℕ
@@ -105,10 +132,10 @@ workers_of (command ∷ option ∷ workers ∷ graph ∷ more ∷ keys ∷ []) =
 workers_of (command ∷ option ∷ workers ∷ graph ∷ keys ∷ first ∷ second ∷ []) = number_to 64 workers
 workers_of words = Some 4
 
--- the words ask for this command, with so many workers, of which there are 1 to 64
-pub record IsChaseCommand (words : List (List ℕ)) (command : Wanted) (workers : ℕ) : Type 0 where
-  pub asked : wanted words ≡ Some command
-  pub named : workers_of words ≡ Some workers
+-- this command is asked for, with so many workers, of which there are 1 to 64
+pub record IsChaseCommand (asked : Option Wanted) (named : Option ℕ) (command : Wanted) (workers : ℕ) : Type 0 where
+  pub asked_for : asked ≡ Some command
+  pub named_so : named ≡ Some workers
   pub some : 0 < workers
   pub few : workers ≤ 64
 
@@ -125,15 +152,23 @@ IsChaseOf asked workers (Grow w files) = ⊥
 IsChaseOf asked workers Help = ⊥
 IsChaseOf asked workers Version = ⊥
 
+-- it is the command that is asked for, with so many workers if it is a chase
+abbrev pub IsAsked : Option Wanted → (workers : Option ℕ) → Command → Type 0
+IsAsked asked workers (Match w files) = IsChaseCommand asked workers (Matching files.graph.now files.keys.now) w
+IsAsked asked workers (Prove w files) = IsChaseCommand asked workers (Proving files.graph.now files.keys.now) w
+IsAsked asked workers (Check files) = asked ≡ Some (Checking files.graph.now files.keys.now files.proof.now)
+IsAsked asked workers (Convert proof) = asked ≡ Some (Converting proof.now)
+IsAsked asked workers (Demo n) = (asked ≡ Some (Demonstrating n)) × (0 < n) × (n ≤ 100000)
+IsAsked asked workers (Merge w files) = IsChaseCommand asked workers (Merging files.graph.now files.keys.now) w
+IsAsked asked workers (Why w words) = IsChaseCommand asked workers (Explaining words.files.graph.now words.files.keys.now words.first.now words.second.now) w
+IsAsked asked workers (Grow w files) = IsChaseCommand asked workers (Growing files.graph.now files.more.now files.keys.now) w
+IsAsked asked workers Help = asked ≡ Some Helping
+IsAsked asked workers Version = asked ≡ Some TellingVersion
+
+-- the command that the table has for these words
+abbrev pub IsPlainCommand : List (List ℕ) → Command → Type 0
+IsPlainCommand words command = IsAsked (plainly_wanted words) (workers_of words) command
+
 -- the command for these words
 abbrev pub IsCommand : List (List ℕ) → Command → Type 0
-IsCommand words (Match workers files) = IsChaseCommand words (Matching files.graph.now files.keys.now) workers
-IsCommand words (Prove workers files) = IsChaseCommand words (Proving files.graph.now files.keys.now) workers
-IsCommand words (Check files) = wanted words ≡ Some (Checking files.graph.now files.keys.now files.proof.now)
-IsCommand words (Convert proof) = wanted words ≡ Some (Converting proof.now)
-IsCommand words (Demo n) = (wanted words ≡ Some (Demonstrating n)) × (0 < n) × (n ≤ 100000)
-IsCommand words (Merge workers files) = IsChaseCommand words (Merging files.graph.now files.keys.now) workers
-IsCommand words (Why workers asked) = IsChaseCommand words (Explaining asked.files.graph.now asked.files.keys.now asked.first.now asked.second.now) workers
-IsCommand words (Grow workers files) = IsChaseCommand words (Growing files.graph.now files.more.now files.keys.now) workers
-IsCommand words Help = wanted words ≡ Some Helping
-IsCommand words Version = wanted words ≡ Some TellingVersion
+IsCommand words command = IsAsked (wanted words) (workers_of (command_words words)) command

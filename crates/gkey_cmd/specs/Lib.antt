@@ -1,5 +1,6 @@
 -- what callers of this crate read
 pub mod Commands
+pub mod Limits
 pub mod Texts
 pub mod Reading
 pub mod HowFar

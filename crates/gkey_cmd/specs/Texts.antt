@@ -13,7 +13,7 @@ use Rattle.gkey_cmd.specs.declared.ending.Refusal.TheVariants.{InGraph, InMore, 
 
 -- the usage text
 abbrev pub usage : List ℕ
-usage = codes "usage:\n  gkey match [--workers N] GRAPH KEYS\n  gkey prove [--workers N] GRAPH KEYS\n  gkey check GRAPH KEYS PROOF\n  gkey demo N\n  gkey convert PROOF\n  gkey grow [--workers N] GRAPH MORE KEYS\n  gkey merge [--workers N] GRAPH KEYS\n  gkey why [--workers N] GRAPH KEYS A B\n  gkey --help\n  gkey --version\n"
+usage = codes "usage:\n  gkey match [--workers N] GRAPH KEYS\n  gkey prove [--workers N] GRAPH KEYS\n  gkey check GRAPH KEYS PROOF\n  gkey demo N\n  gkey convert PROOF\n  gkey grow [--workers N] GRAPH MORE KEYS\n  gkey merge [--workers N] GRAPH KEYS\n  gkey why [--workers N] GRAPH KEYS A B\n  gkey --help\n  gkey --version\n  gkey --large COMMAND ...\n"
 
 -- the text of help, in lines of at most 80 characters
 unfoldable pub help_text : List ℕ
@@ -41,6 +41,8 @@ help_text =
     ++ codes "      prints this text\n"
     ++ codes "  gkey --version\n"
     ++ codes "      prints the version\n"
+    ++ codes "  gkey --large COMMAND ...\n"
+    ++ codes "      runs match, prove, check, convert, grow, merge or why with larger limits\n"
     ++ codes "\n"
     ++ codes "words:\n"
     ++ codes "  GRAPH  a graph in N-Triples\n"
@@ -57,6 +59,13 @@ help_text =
     ++ codes "  KEYS   1048576 bytes, 64 keys, each of 16 nodes and 32 triples\n"
     ++ codes "  PROOF  536870912 bytes\n"
     ++ codes "  pairs  67108864 candidate pairs of entities\n"
+    ++ codes "\n"
+    ++ codes "limits with --large:\n"
+    ++ codes "  GRAPH  1099511627776 bytes, 1073741824 triples\n"
+    ++ codes "  MORE   1099511627776 bytes, and as many triples as GRAPH leaves\n"
+    ++ codes "  KEYS   as without it\n"
+    ++ codes "  PROOF  1099511627776 bytes\n"
+    ++ codes "  pairs  as many as there are\n"
     ++ codes "\n"
     ++ codes "status:\n"
     ++ codes "   0  the command did what it is for\n"

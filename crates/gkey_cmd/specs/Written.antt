@@ -1,6 +1,6 @@
 -- What a run writes: the relation of its words, its files and its limits to its status, its output and its error text. The
 -- files are those that its command goes by.
-use Rattle.std.specs.Prelude.{List, [], ◌++◌, ℕ, ◌≡◌, ◌⊎◌, ◌≤◌, ◌^◌, ⊤, Option, Some, None, Ok}
+use Rattle.std.specs.Prelude.{List, [], ◌++◌, ℕ, ◌≡◌, ◌⊎◌, ⊤, Option, Some, None, Ok}
 use Rattle.gk_base.specs.declared.limits.Limits.{Limits}
 use Rattle.gk_base.specs.declared.term.Triple.{Triple}
 use Rattle.gk_io.specs.Files.{bytes_of}
@@ -33,13 +33,6 @@ status_of NotTheSame = 1
 -- a status that stands for an answer
 abbrev pub IsAnswer : ℕ → Type 0
 IsAnswer status = (status ≡ 0) ⊎ (status ≡ 1)
-
--- each limit is at most that of the program
-pub record AreAtMostStandard (limits : Limits) : Type 0 where
-  pub bytes : limits.bytes ≤ 2 ^ 29
-  pub key_bytes : limits.key_bytes ≤ 2 ^ 20
-  pub triples : limits.triples ≤ 2 ^ 22
-  pub pairs : limits.pairs ≤ 2 ^ 26
 
 -- an accepted graph and accepted keys lead to more candidate pairs than the limit
 abbrev pub ChaseHasMorePairs : Limits → NamedFiles → (graph keys : List ℕ) → Type 0

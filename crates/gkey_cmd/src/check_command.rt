@@ -6,7 +6,7 @@ ghost use Rattle.graph_rows.specs.Rows.{StandFor};
 ghost use Rattle.proof_check.specs.Ready.{IsReady};
 ghost use Rattle.gkey_cmd.specs.Commands.{Checking};
 ghost use Rattle.gkey_cmd.specs.Check.{verdict_answer, verdict_text, IsChecked};
-ghost use Rattle.gkey_cmd.specs.Written.{AreAtMostStandard};
+ghost use Rattle.gkey_cmd.specs.Limits.{CanBeKept};
 ghost use Rattle.gkey_cmd.specs.Endings.{EndsAt, Stopped, ReadProof};
 
 use crate::ending::{Answer, Ending};
@@ -114,7 +114,7 @@ fn checker_and_proof_at_once<Rt: Threads, S: Shelf>(
     read: ReadFiles,
     proof: &Source<'_>,
 ) -> Result<(Checker, KeyFile, Proof), Ending>
-    requires { AreAtMostStandard proof.now.limits.now }
+    requires { CanBeKept proof.now.limits.now }
     ensures ready { IfOk result (λ r. (triples : List AnyTriple) → StandFor read.rows triples → IsReady r.0 triples read.keys) }
     ensures keys { IfOk result (λ r. r.1 ≡ read.keys) }
     ensures read { IfOk result (λ r. ReadProof S.Shelf shelf.old shelf.new proof.now.limits.now proof.now.name.now r.2) }
@@ -146,7 +146,7 @@ fn checker_and_proof<Rt: Threads, S: Shelf>(
     read: ReadFiles,
     proof: &Source<'_>,
 ) -> Result<(Checker, KeyFile, Proof), Ending>
-    requires { AreAtMostStandard proof.now.limits.now }
+    requires { CanBeKept proof.now.limits.now }
     ensures ready { IfOk result (λ r. (triples : List AnyTriple) → StandFor read.rows triples → IsReady r.0 triples read.keys) }
     ensures keys { IfOk result (λ r. r.1 ≡ read.keys) }
     ensures read { IfOk result (λ r. ReadProof S.Shelf shelf.old shelf.new proof.now.limits.now proof.now.name.now r.2) }
@@ -169,7 +169,7 @@ pub(crate) fn check_command<Rt: Threads + Wait + Sync, S: Shelf>(
     files: &CheckFiles<'_>,
     limits: &Limits,
 ) -> Result<(Answer, Vec<u8>), Ending>
-    requires { AreAtMostStandard limits.now }
+    requires { CanBeKept limits.now }
     ensures { let Stops = Stopped S.Shelf shelf.old shelf.new (Checking files.now.graph.now files.now.keys.now files.now.proof.now) limits.now in
         MatchResult result (λ r. Stops (Ending.Done r.0 r.1)) Stops }
 {

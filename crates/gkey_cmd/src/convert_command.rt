@@ -3,7 +3,7 @@
 ghost use Rattle.std.specs.Prelude.{◌≡◌, IfOk, MatchResult};
 ghost use Rattle.proof_file.specs.CanonicalProof.{proof_text};
 ghost use Rattle.gkey_cmd.specs.Commands.{Converting};
-ghost use Rattle.gkey_cmd.specs.Written.{AreAtMostStandard};
+ghost use Rattle.gkey_cmd.specs.Limits.{CanBeKept};
 ghost use Rattle.gkey_cmd.specs.Endings.{Stopped};
 
 use crate::ending::{Answer, Ending};
@@ -29,7 +29,7 @@ pub(crate) fn convert_command<S: Shelf>(
     proof: &Text,
     limits: &Limits,
 ) -> Result<Vec<u8>, Ending>
-    requires { AreAtMostStandard limits.now }
+    requires { CanBeKept limits.now }
     ensures { let Stops = Stopped S.Shelf shelf.old shelf.new (Converting proof.now) limits.now in
         MatchResult result (λ text. Stops (Ending.Done Answer.Given text)) Stops }
 {

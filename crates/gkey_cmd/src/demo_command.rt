@@ -1,6 +1,6 @@
 //! `demo`: how many triples, candidate pairs, classes and members there are, from the two texts that it makes.
 
-ghost use Rattle.std.specs.Prelude.{◌<◌, ◌≤◌, ◌≡◌, List, IfOk, MatchResult, length};
+ghost use Rattle.std.specs.Prelude.{◌<◌, ◌≤◌, ◌≡◌, ◌^◌, List, IfOk, MatchResult, length};
 ghost use Rattle.gk_base.specs.declared.term.Triple.{Triple as AnyTriple};
 ghost use Rattle.graph_rows.specs.Rows.{StandFor, AreFew};
 ghost use Rattle.gkey_cmd.specs.ChaseOptions.{AreInRange};
@@ -64,6 +64,7 @@ fn demo_text<Rt: Threads + Wait + Sync, G: Gate>(
 ) -> Result<Vec<u8>, Ending>
     requires few { AreFew read.rows }
     requires options { AreInRange options.now.limits.now options.now.workers }
+    requires counted { options.now.limits.now.pairs < 2 ^ 32 }
     ensures { (triples : List AnyTriple) → StandFor read.rows triples → DemoEnds triples read.keys options.now.limits.now.pairs result }
 {
     law_rows();
@@ -90,6 +91,7 @@ pub(crate) fn demo_command<Rt: Threads + Wait + Sync, G: Gate>(
 ) -> Result<Vec<u8>, Ending>
     requires number { (0 < n) × (n ≤ 100000) }
     requires options { AreInRange options.now.limits.now options.now.workers }
+    requires counted { options.now.limits.now.pairs < 2 ^ 32 }
     ensures { let Stops = DemoStops n options.now.limits.now in
         MatchResult result (λ text. Stops (Ending.Done Answer.Given text)) Stops }
 {

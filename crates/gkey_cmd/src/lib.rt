@@ -3,6 +3,7 @@
 //! contract relates the words and the files to status, output and error text, and gives each answer its cause.
 //!
 //! - `words`: the commands and the words that ask for them
+//! - `limits`: how large inputs may be, by the words
 //! - `file`: the files that a command reads
 //! - `reading`: how they are read, up to the first that fails or is refused
 //! - `chased`: the chase of a command's files
@@ -24,6 +25,7 @@ mod entities;
 mod file;
 mod grow_command;
 mod laws;
+mod limits;
 mod match_command;
 mod merge_command;
 mod prove_command;
@@ -34,6 +36,7 @@ mod why_command;
 mod words;
 
 pub use laws::law_one_output;
+pub use limits::ProgramLimits;
 pub use texts::{NO_MEMORY, NO_WORDS};
 pub use top::{run, run_gated};
 pub use words::{CheckFiles, Command, GraphAndKeys, GrowFiles, WhyWords, read_words};

@@ -5,7 +5,7 @@ ghost use Rattle.gk_base.specs.declared.term.Triple.{Triple as AnyTriple};
 ghost use Rattle.gk_io.specs.Files.{bytes_of};
 ghost use Rattle.gkey_cmd.specs.Commands.{Matching, Growing};
 ghost use Rattle.gkey_cmd.specs.Reading.{KeyFileSays, ProofFileSays, left_by};
-ghost use Rattle.gkey_cmd.specs.Written.{AreAtMostStandard};
+ghost use Rattle.gkey_cmd.specs.Limits.{CanBeKept};
 ghost use Rattle.gkey_cmd.specs.HowFar.{KeysLeft, ProofLeft};
 ghost use Rattle.graph_rows.specs.Rows.{StandFor, AreFew};
 ghost use Rattle.gkey_cmd.specs.Endings.{EndsAt, Stopped, IsBeforeChase, ReadBoth, ReadThree};
@@ -40,7 +40,7 @@ pub(crate) fn read_keys<S: Shelf>(
     name: &Text,
     limits: &Limits,
 ) -> Result<KeyFile, Ending>
-    requires { AreAtMostStandard limits.now }
+    requires { CanBeKept limits.now }
     ensures held { S.held shelf.new ≡ S.held shelf.old }
     ensures count { OnOk result (S.faults shelf.new ≡ S.faults shelf.old) }
     ensures says { IfOk result (λ keys. IfSome (S.held shelf.old) (λ files. KeyFileSays limits.now (bytes_of files name.now) (Ok keys))) }
@@ -62,7 +62,7 @@ pub(crate) fn read_proof<S: Shelf>(
     name: &Text,
     limits: &Limits,
 ) -> Result<Proof, Ending>
-    requires { AreAtMostStandard limits.now }
+    requires { CanBeKept limits.now }
     ensures held { S.held shelf.new ≡ S.held shelf.old }
     ensures count { OnOk result (S.faults shelf.new ≡ S.faults shelf.old) }
     ensures says { IfOk result (λ proof. IfSome (S.held shelf.old) (λ files. ProofFileSays limits.now (bytes_of files name.now) (Ok proof))) }
@@ -75,7 +75,12 @@ pub(crate) fn read_proof<S: Shelf>(
         Err(Stop::NoMemory) => return Err(Ending::NoMemory),
         Err(Stop::Fault(Failed)) => return Err(Ending::Failed(File::Proof)),
     };
-    Ok(proof_file::read_proof(alloc, &bytes, limits.bytes)?)
+    let proof = proof_file::read_proof(alloc, &bytes, limits.bytes)?;
+    // So many steps have no numbers of four bytes, and a checker has no room for them.
+    if proof.steps.len() >= 1 << 32 {
+        return Err(Ending::NoMemory);
+    }
+    Ok(proof)
 }
 
 /// The rows of the graph and the keys, or the ending of a run that can't have them: the graph comes first, then the key
@@ -87,7 +92,7 @@ pub(crate) fn read_graph_and_keys<Rt: Threads + Wait + Sync, S: Shelf, G: Gate>(
     files: &GraphAndKeys<'_>,
     options: &ChaseOptions<'_, G>,
 ) -> Result<ReadFiles, Ending>
-    requires { AreAtMostStandard options.now.limits.now }
+    requires { CanBeKept options.now.limits.now }
     ensures read { IfOk result (λ r. ReadBoth S.Shelf shelf.old shelf.new options.now.limits.now files.now.graph.now files.now.keys.now r.rows r.keys) }
     ensures few { IfOk result (λ r. AreFew r.rows) }
     ensures ends { IfErr result (Stopped S.Shelf shelf.old shelf.new (Matching files.now.graph.now files.now.keys.now) options.now.limits.now) }
@@ -123,7 +128,7 @@ pub(crate) fn read_graphs_and_keys<Rt: Threads + Wait + Sync, S: Shelf, G: Gate>
     files: &GrowFiles<'_>,
     options: &ChaseOptions<'_, G>,
 ) -> Result<(MoreRows, KeyFile), Ending>
-    requires { AreAtMostStandard options.now.limits.now }
+    requires { CanBeKept options.now.limits.now }
     ensures read { IfOk result (λ r. ReadThree S.Shelf shelf.old shelf.new options.now.limits.now files.now.graph.now files.now.more.now files.now.keys.now r.0.rows r.1) }
     ensures few { IfOk result (λ r. AreFew r.0.rows) }
     ensures first { IfOk result (λ r. r.0.first ≤ length r.0.rows.rows.items) }

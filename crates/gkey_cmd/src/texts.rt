@@ -43,7 +43,7 @@ pub(crate) const NO_COMMAND: u8 = 64;
 
 /// The text of `NO_COMMAND`.
 pub(crate) const USAGE: &[u8] =
-    b"usage:\n  gkey match [--workers N] GRAPH KEYS\n  gkey prove [--workers N] GRAPH KEYS\n  gkey check GRAPH KEYS PROOF\n  gkey demo N\n  gkey convert PROOF\n  gkey grow [--workers N] GRAPH MORE KEYS\n  gkey merge [--workers N] GRAPH KEYS\n  gkey why [--workers N] GRAPH KEYS A B\n  gkey --help\n  gkey --version\n";
+    b"usage:\n  gkey match [--workers N] GRAPH KEYS\n  gkey prove [--workers N] GRAPH KEYS\n  gkey check GRAPH KEYS PROOF\n  gkey demo N\n  gkey convert PROOF\n  gkey grow [--workers N] GRAPH MORE KEYS\n  gkey merge [--workers N] GRAPH KEYS\n  gkey why [--workers N] GRAPH KEYS A B\n  gkey --help\n  gkey --version\n  gkey --large COMMAND ...\n";
 
 /// The text of `--version`. The version stands here alone in the code.
 const VERSION: &[u8] = b"gkey 0.1.0\n";
@@ -73,6 +73,8 @@ usage:
       prints this text
   gkey --version
       prints the version
+  gkey --large COMMAND ...
+      runs match, prove, check, convert, grow, merge or why with larger limits
 
 words:
   GRAPH  a graph in N-Triples
@@ -89,6 +91,13 @@ limits:
   KEYS   1048576 bytes, 64 keys, each of 16 nodes and 32 triples
   PROOF  536870912 bytes
   pairs  67108864 candidate pairs of entities
+
+limits with --large:
+  GRAPH  1099511627776 bytes, 1073741824 triples
+  MORE   1099511627776 bytes, and as many triples as GRAPH leaves
+  KEYS   as without it
+  PROOF  1099511627776 bytes
+  pairs  as many as there are
 
 status:
    0  the command did what it is for

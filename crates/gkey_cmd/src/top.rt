@@ -1,8 +1,8 @@
 //! The whole of a run: from the words to what is written at its end.
 
-ghost use Rattle.std.specs.Prelude.{◌≡◌, MatchResult};
-ghost use Rattle.gkey_cmd.specs.Commands.{wanted};
-ghost use Rattle.gkey_cmd.specs.Written.{AreAtMostStandard};
+ghost use Rattle.std.specs.Prelude.{◌≡◌, ◌<◌, ◌^◌, ℕ, Some, MatchResult};
+ghost use Rattle.gkey_cmd.specs.Commands.{Demonstrating, wanted};
+ghost use Rattle.gkey_cmd.specs.Limits.{CanBeKept, AreProgramLimits, limits_for, standard_limits};
 ghost use Rattle.gkey_cmd.specs.Endings.{Caused, LeavesShelf};
 ghost use Rattle.gkey_cmd.specs.Run.{IsRun};
 
@@ -12,6 +12,7 @@ use crate::convert_command::convert_command;
 use crate::demo_command::demo_command;
 use crate::ending::{Answer, Ending, finish};
 use crate::grow_command::grow_command;
+use crate::limits::ProgramLimits;
 use crate::match_command::match_command;
 use crate::merge_command::merge_command;
 use crate::prove_command::prove_command;
@@ -77,7 +78,8 @@ fn decide<Rt: Threads + Wait + Sync, S: Shelf, G: Gate>(
     limits: &Limits,
     gate: &G,
 ) -> Ending
-    requires { AreAtMostStandard limits.now }
+    requires kept { CanBeKept limits.now }
+    requires counted { (n : ℕ) → wanted words.now ≡ Some (Demonstrating n) → limits.now.pairs < 2 ^ 32 }
     ensures caused { Caused S.Shelf shelf.old shelf.new (wanted words.now) limits.now result }
     ensures asks_no_files { LeavesShelf shelf.old shelf.new (wanted words.now) result }
 {
@@ -116,8 +118,8 @@ fn decide<Rt: Threads + Wait + Sync, S: Shelf, G: Gate>(
     }
 }
 
-/// Does what the words ask for, with these limits, and gives the status. What it leaves at each status, and why, is `IsRun`
-/// in `specs/Run.antt`.
+/// Does what the words ask for, with the limits that they ask for, of these, and gives the status. What it leaves at each
+/// status, and why, is `IsRun` in `specs/Run.antt`.
 ///
 /// The words are those after the program's name. The files are found and read in their order, up to the first that
 /// fails or is refused; then the chase runs and its text is made; then it is written. A demo reads its own texts, and no
@@ -129,12 +131,13 @@ pub fn run_gated<Rt: Threads + Wait + Sync, S: Shelf, O: Sink, E: Sink, G: Gate>
     shelf: &mut S,
     out: &mut O,
     err: &mut E,
-    limits: &Limits,
+    limits: &ProgramLimits,
     gate: &G,
 ) -> u8
-    requires { AreAtMostStandard limits.now }
-    ensures { IsRun S.Shelf O.Sink E.Sink (wanted words.now) limits.now shelf.old shelf.new out.old out.new err.old err.new result }
+    requires { AreProgramLimits limits.now }
+    ensures { IsRun S.Shelf O.Sink E.Sink (wanted words.now) (limits_for words.now limits.now) shelf.old shelf.new out.old out.new err.old err.new result }
 {
+    let limits = &limits.of_words(words);
     let ending = decide(rt, alloc, words, shelf, limits, gate);
     finish(alloc, &ending, out, err)
 }
@@ -155,7 +158,7 @@ pub fn run<Rt: Threads + Wait + Sync, S: Shelf, O: Sink, E: Sink>(
     out: &mut O,
     err: &mut E,
 ) -> u8
-    ensures { IsRun S.Shelf O.Sink E.Sink (wanted words.now) Limits.STANDARD shelf.old shelf.new out.old out.new err.old err.new result }
+    ensures { IsRun S.Shelf O.Sink E.Sink (wanted words.now) (limits_for words.now standard_limits) shelf.old shelf.new out.old out.new err.old err.new result }
 {
     run_gated(
         rt,
@@ -164,7 +167,7 @@ pub fn run<Rt: Threads + Wait + Sync, S: Shelf, O: Sink, E: Sink>(
         shelf,
         out,
         err,
-        &Limits::STANDARD,
+        &ProgramLimits::STANDARD,
         &OpenGate,
     )
 }

@@ -1,7 +1,7 @@
 //! The commands of the program, and the words that ask for them.
 
-ghost use Rattle.std.specs.Prelude.{[], ◌∷◌, ◌≡◌, ◌≤◌, ◌<◌, None, IfSome, MatchOption};
-ghost use Rattle.gkey_cmd.specs.Commands.{wanted, chase_of, number_to, IsCommand, IsChaseOf};
+ghost use Rattle.std.specs.Prelude.{[], ◌∷◌, ◌≡◌, ◌≤◌, ◌<◌, true, false, drop, None, IfSome, MatchOption};
+ghost use Rattle.gkey_cmd.specs.Commands.{plainly_wanted, wanted, are_large, by_named_files, workers_of, chase_of, number_to, IsPlainCommand, IsCommand, IsAsked, IsChaseOf};
 
 use demo_graph::number_of;
 use gk_base::Text;
@@ -150,7 +150,7 @@ fn three_files<'w>(
     third: &'w Text,
 ) -> Option<Command<'w>>
     ensures { let words = name.now ∷ first.now ∷ second.now ∷ third.now ∷ [] in
-        MatchOption result (wanted words ≡ None) (IsCommand words) }
+        MatchOption result (plainly_wanted words ≡ None) (IsPlainCommand words) }
 {
     if name.bytes() == b"check".as_slice() {
         let files = CheckFiles {
@@ -177,7 +177,7 @@ fn three_files<'w>(
 /// The command that this word alone asks for, if there is one.
 fn one_word<'w>(word: &Text) -> Option<Command<'w>>
     ensures { let words = word.now ∷ [] in
-        MatchOption result (wanted words ≡ None) (IsCommand words) }
+        MatchOption result (plainly_wanted words ≡ None) (IsPlainCommand words) }
 {
     if word.bytes() == b"--help".as_slice() {
         Some(Command::Help)
@@ -191,7 +191,7 @@ fn one_word<'w>(word: &Text) -> Option<Command<'w>>
 /// The command that this word asks for with one other, if there is one.
 fn two_words<'w>(name: &Text, argument: &'w Text) -> Option<Command<'w>>
     ensures { let words = name.now ∷ argument.now ∷ [] in
-        MatchOption result (wanted words ≡ None) (IsCommand words) }
+        MatchOption result (plainly_wanted words ≡ None) (IsPlainCommand words) }
 {
     if name.bytes() == b"convert".as_slice() {
         Some(Command::Convert { proof: argument })
@@ -214,7 +214,7 @@ fn five_words<'w>(
     fifth: &'w Text,
 ) -> Option<Command<'w>>
     ensures { let words = name.now ∷ second.now ∷ third.now ∷ fourth.now ∷ fifth.now ∷ [] in
-        MatchOption result (wanted words ≡ None) (IsCommand words) }
+        MatchOption result (plainly_wanted words ≡ None) (IsPlainCommand words) }
 {
     if name.bytes() == b"why".as_slice() {
         let words = WhyWords {
@@ -248,7 +248,7 @@ fn grow_words<'w>(
     files: GrowFiles<'w>,
 ) -> Option<Command<'w>>
     ensures { let words = name.now ∷ option.now ∷ workers.now ∷ files.entry.graph.now ∷ files.entry.more.now ∷ files.entry.keys.now ∷ [] in
-        MatchOption result (wanted words ≡ None) (IsCommand words) }
+        MatchOption result (plainly_wanted words ≡ None) (IsPlainCommand words) }
 {
     if name.bytes() == b"grow".as_slice() && option.bytes() == b"--workers".as_slice() {
         Some(Command::Grow {
@@ -268,7 +268,7 @@ fn why_words<'w>(
     words: WhyWords<'w>,
 ) -> Option<Command<'w>>
     ensures { let all = name.now ∷ option.now ∷ workers.now ∷ words.entry.files.graph.now ∷ words.entry.files.keys.now ∷ words.entry.first.now ∷ words.entry.second.now ∷ [] in
-        MatchOption result (wanted all ≡ None) (IsCommand all) }
+        MatchOption result (plainly_wanted all ≡ None) (IsPlainCommand all) }
 {
     if name.bytes() == b"why".as_slice() && option.bytes() == b"--workers".as_slice() {
         Some(Command::Why {
@@ -280,10 +280,9 @@ fn why_words<'w>(
     }
 }
 
-/// The command that the words after the program's name ask for. None comes exactly where they ask for none. It takes
-/// no memory.
-pub fn read_words<'w>(words: &'w [Text]) -> Option<Command<'w>>
-    ensures { MatchOption result (wanted words.now ≡ None) (IsCommand words.now) }
+/// The command that words without `--large` ask for, if there is one.
+fn plain_words<'w>(words: &'w [Text]) -> Option<Command<'w>>
+    ensures { MatchOption result (plainly_wanted words.now ≡ None) (IsPlainCommand words.now) }
 {
     match words {
         [name] => one_word(name),
@@ -305,5 +304,48 @@ pub fn read_words<'w>(words: &'w [Text]) -> Option<Command<'w>>
             why_words(name, option, workers, words)
         }
         _ => None,
+    }
+}
+
+/// The words behind `--large`, if the words begin with it.
+fn behind_large(words: &[Text]) -> Option<&[Text]>
+    ensures { MatchOption result (are_large words.now ≡ false) (λ others. (are_large words.now ≡ true) × (others.now ≡ drop 1 words.now)) }
+{
+    let [first, others @ ..] = words else {
+        return None;
+    };
+    if first.bytes() == b"--large".as_slice() {
+        Some(others)
+    } else {
+        None
+    }
+}
+
+/// Whether the words begin with `--large`.
+pub(crate) fn are_large(words: &[Text]) -> bool
+    ensures { result ≡ are_large words.now }
+{
+    behind_large(words).is_some()
+}
+
+/// The command that words behind `--large` ask for, if there is one: it is none that goes by no file that the words name.
+fn large_words<'w>(words: &'w [Text]) -> Option<Command<'w>>
+    ensures { let asked = by_named_files (plainly_wanted words.now) in
+        MatchOption result (asked ≡ None) (IsAsked asked (workers_of words.now)) }
+{
+    match plain_words(words)? {
+        Command::Demo { .. } | Command::Help | Command::Version => None,
+        command => Some(command),
+    }
+}
+
+/// The command that the words after the program's name ask for. None comes exactly where they ask for none. It takes
+/// no memory.
+pub fn read_words<'w>(words: &'w [Text]) -> Option<Command<'w>>
+    ensures { MatchOption result (wanted words.now ≡ None) (IsCommand words.now) }
+{
+    match behind_large(words) {
+        Some(others) => large_words(others),
+        None => plain_words(words),
     }
 }

@@ -1,7 +1,7 @@
 //! A graph, read piece by piece: from a shelf's file to rows and names, numbered as they come; or what stopped it.
 
 ghost use Rattle.std.specs.Prelude.{◌≡◌, ◌+◌, ◌<◌, ◌≤◌, ◌^◌, length};
-ghost use Rattle.graph_rows.specs.Rows.{LeaveRoom};
+ghost use Rattle.graph_rows.specs.Rows.{LeaveRoom, most_triples};
 ghost use Rattle.graph_rows.specs.GraphFile.{GivesRows, GivesMoreRows};
 ghost use Rattle.graph_rows.specs.Feeding.{FeedsNext, ReadsBehind};
 
@@ -76,7 +76,7 @@ fn read_behind<S: Shelf, R: Threads + Sync>(
 }
 
 /// The rows and names of the graph of this name. The file is read piece by piece, and no further once it is refused: of the
-/// limits, those of bytes and of triples count.
+/// limits, those of bytes and of triples count. A graph has 2^30 triples at most.
 ///
 /// `threads` says how many threads may be used, the caller's among them. With 2 or more, the triples of some pieces are looked
 /// up and numbered while the next ones are read and judged. With fewer, all is done on the caller's. The answer is the same.
@@ -93,7 +93,7 @@ pub fn read_rows<S: Shelf, R: Threads + Sync>(
     limits: &Limits,
 ) -> Result<Rows, FileStop<ReadRefusal>>
     requires bytes { limits.now.bytes + 1 < 2 ^ 64 }
-    requires triples { limits.now.triples ≤ 2 ^ 22 }
+    requires triples { limits.now.triples ≤ most_triples }
     ensures held { S.held shelf.new ≡ S.held shelf.old }
     ensures gives { GivesRows S.Shelf shelf.old shelf.new limits.now name.now result }
 {

@@ -8,6 +8,7 @@
 //! - `proofs`: proofs that are made, checked and converted
 //! - `proof_files`: proof files that are refused or can't be read
 //! - `workers`: chases with one worker and with many, and what passes their gates
+//! - `limits`: limits without `--large` and with it
 //! - `texts`: texts that several of them run on
 #![tactic(auto)]
 
@@ -15,6 +16,8 @@
 mod graphs;
 #[cfg(test)]
 mod keys;
+#[cfg(test)]
+mod limits;
 #[cfg(test)]
 mod proof_files;
 #[cfg(test)]

@@ -1,12 +1,13 @@
 //! Runs over files in memory, the two albums above all: limits, devices that fail, and demos.
 
-ghost use Rattle.std.specs.Prelude.{◌<◌};
+ghost use Rattle.std.specs.Prelude.{◌<◌, ◌^◌, IfSome, IsTrue};
+ghost use Rattle.gkey_cmd.specs.Limits.{AreProgramLimits, CanBeKept};
 
 use crate::texts::{album_key, albums};
 use fixtures::texts::{ALBUM_KEY, ALBUMS, ONE_VALUE, TWO_VALUES};
 use gk_base::{Limits, NoMemory, Text};
 use gk_io::{MemShelf, MemSink, SureShelf, SureSink};
-use gkey_cmd::{run, run_gated};
+use gkey_cmd::{ProgramLimits, run, run_gated};
 use std::alloc::Global;
 use std::process::Abort;
 use std::sync::Wait;
@@ -67,6 +68,8 @@ pub struct Case<'a> {
     /// The most bytes that a call gives or takes.
     pub most: usize,
     pub limits: Limits,
+    /// The limits with `--large`; those of the program where there are none.
+    pub large: Option<Limits>,
     pub status: u8,
     pub out: &'a [u8],
     pub err: &'a str,
@@ -82,6 +85,7 @@ pub const GOOD: Case<'static> = Case {
     writes: &[],
     most: 65_536,
     limits: Limits::STANDARD,
+    large: None,
     status: 0,
     out: b"<urn:al1> <urn:al2>\n",
     err: "",
@@ -145,6 +149,33 @@ fn output_of(alloc: Global, case: &Case<'_>) -> Result<MemSink, NoMemory>
     MemSink::new(alloc, case.most, 1000, case.writes.to_vec(alloc)?)
 }
 
+/// Whether no limit is beyond that of the program without `--large`.
+fn is_within(limits: &Limits) -> bool
+    ensures { IsTrue result → CanBeKept limits.now × (limits.now.pairs < 2 ^ 32) }
+{
+    let standard = Limits::STANDARD;
+    limits.bytes <= standard.bytes
+        && limits.key_bytes <= standard.key_bytes
+        && limits.triples <= standard.triples
+        && limits.pairs <= standard.pairs
+}
+
+/// The limits of a case's run; none where one is beyond that of the program.
+fn limits_of(case: &Case<'_>) -> Option<ProgramLimits>
+    ensures { IfSome result AreProgramLimits }
+{
+    let standard = ProgramLimits::STANDARD;
+    let plain = case.limits;
+    if !is_within(&plain) {
+        return None;
+    }
+    match case.large {
+        Some(large) if is_within(&large) => Some(ProgramLimits { plain, large }),
+        Some(_) => None,
+        None => Some(ProgramLimits { plain, ..standard }),
+    }
+}
+
 /// The status of a case's run over these devices; none where a limit is beyond that of the program.
 fn status_over<R: AllocGlobal + Threads + Wait + Sync + Abort>(
     rt: &R,
@@ -153,36 +184,60 @@ fn status_over<R: AllocGlobal + Threads + Wait + Sync + Abort>(
     out: &mut MemSink,
     err: &mut MemSink,
 ) -> Option<u8> {
-    let limits = case.limits;
-    let standard = Limits::STANDARD;
-    let within = limits.bytes <= standard.bytes
-        && limits.key_bytes <= standard.key_bytes
-        && limits.triples <= standard.triples
-        && limits.pairs <= standard.pairs;
-    if !within {
-        return None;
-    }
+    let limits = limits_of(case)?;
     let alloc = rt.alloc();
     let words = words_of(alloc, case.words).expect(rt, ENOUGH);
     Some(run_gated(rt, alloc, &words, shelf, out, err, &limits, &OpenGate))
 }
 
-/// Whether this is what the run of a case must leave.
-fn is_left(case: &Case<'_>, status: Option<u8>, out: &[u8], err: &[u8]) -> bool {
-    status == Some(case.status) && out == case.out && err == case.err.as_bytes()
+/// What a run left.
+#[derive(PartialEq, Eq, Drop)]
+pub struct Left {
+    pub status: u8,
+    pub out: Vec<u8>,
+    pub err: Vec<u8>,
 }
 
-/// Whether the run leaves what it must.
-pub fn holds<R: AllocGlobal + Threads + Wait + Sync + Abort>(rt: &R, case: &Case<'_>) -> bool {
+/// What a run left that ended with this status, where it ended with one.
+fn left_at<R: AllocGlobal + Abort>(
+    rt: &R,
+    status: Option<u8>,
+    out: &[u8],
+    err: &[u8],
+) -> Option<Left> {
+    Some(Left {
+        status: status?,
+        out: out.to_vec(rt.alloc()).expect(rt, ENOUGH),
+        err: err.to_vec(rt.alloc()).expect(rt, ENOUGH),
+    })
+}
+
+/// What the run of a case leaves; none where a limit is beyond that of the program.
+pub fn left_by<R: AllocGlobal + Threads + Wait + Sync + Abort>(
+    rt: &R,
+    case: &Case<'_>,
+) -> Option<Left> {
     if case.most == 0 {
-        return false;
+        return None;
     }
     let alloc = rt.alloc();
     let mut shelf = shelf_of(alloc, case).expect(rt, ENOUGH);
     let mut out = output_of(alloc, case).expect(rt, ENOUGH);
     let mut err = MemSink::new(alloc, 1000, 1000, Vec::new(alloc)).expect(rt, ENOUGH);
     let status = status_over(rt, case, &mut shelf, &mut out, &mut err);
-    is_left(case, status, out.bytes(), err.bytes())
+    left_at(rt, status, out.bytes(), err.bytes())
+}
+
+/// Whether the run leaves what it must.
+pub fn holds<R: AllocGlobal + Threads + Wait + Sync + Abort>(rt: &R, case: &Case<'_>) -> bool {
+    match left_by(rt, case) {
+        Some(left) => {
+            left.status == case.status
+                && left.out.as_slice() == case.out
+                && left.err.as_slice() == case.err.as_bytes()
+        }
+        None => false,
+    }
 }
 
 /// Graphs with keys, and what is printed.

@@ -9,7 +9,7 @@ use std::sync::Wait;
 use std::thread::Threads;
 
 /// Words that ask for no command.
-static NO_COMMAND: [&'static [&'static str]; 24] = [
+static NO_COMMAND: [&'static [&'static str]; 31] = [
     &[],
     &["match", "g"],
     &["match", "g", "k", "k"],
@@ -34,6 +34,13 @@ static NO_COMMAND: [&'static [&'static str]; 24] = [
     &["--help", "--help"],
     &["--version", "--help"],
     &["--version", "g", "k"],
+    &["--large"],
+    &["--large", "--large", "match", "g", "k"],
+    &["match", "--large", "g", "k"],
+    &["match", "g", "k", "--large"],
+    &["--large", "demo", "1"],
+    &["--large", "--help"],
+    &["--large", "--version"],
 ];
 
 fn no_command() -> &'static [&'static [&'static str]] {

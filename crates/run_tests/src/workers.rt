@@ -5,9 +5,9 @@ use crate::proofs::CHECK;
 use crate::runs::{ENOUGH, files_of, words_of};
 use crate::texts::{album_and_artist_keys, albums_and_artists, one_value, three_classes};
 use gates::{Counts, Meeting};
-use gk_base::{Limits, NoMemory};
+use gk_base::NoMemory;
 use gk_io::{SureShelf, SureSink};
-use gkey_cmd::run_gated;
+use gkey_cmd::{ProgramLimits, run_gated};
 use std::alloc::Global;
 use std::process::Abort;
 use std::sync::Wait;
@@ -26,7 +26,8 @@ fn status_over<R: AllocGlobal + Threads + Wait + Sync + Abort, G: Gate>(
 ) -> u8 {
     let alloc = rt.alloc();
     let words = words_of(alloc, words).expect(rt, ENOUGH);
-    run_gated(rt, alloc, &words, shelf, out, err, &Limits::STANDARD, gate)
+    let limits = &ProgramLimits::STANDARD;
+    run_gated(rt, alloc, &words, shelf, out, err, limits, gate)
 }
 
 /// The output of a run that ends with 0 and no error text.
