@@ -7,7 +7,7 @@ use Rattle.chase_laws.specs.declared.pattern.Slot.TheVariants.{Entity}
 use Rattle.chase_laws.specs.Shape.{Shape, PatternFacts}
 use Rattle.chase_laws.specs.Graph.{NumberedGraph, HasRow, IsGraph}
 use Rattle.chase_laws.specs.Valuation.{FitsSlot, Designates}
-use Rattle.chase_laws.specs.Candidate.{IsCandidate, AreAscending}
+use Rattle.chase_laws.specs.Candidate.{AreAscending}
 use Rattle.pair_seed.specs.Pairs.{HasMoreCandidates}
 
 -- a later pair, as one number of 64 bits, is a larger one
@@ -53,9 +53,9 @@ pub no_more_than_largest : (G : NumberedGraph) (K : List Shape) → IsGraph G �
 no_more_than_largest G K graph few facts more =
     let more_than = more.more in
     let at_most = few_pairs more.pairs more.ascending (λ i d within.
-      let x = more.candidates i d within in
-      let known = facts x.key x.pattern x.found in
-      let below = x.below in
-      let right = designated_named G graph x.pattern known (get_or more.pairs i d).1 x.under.right in
-      (omega arith, omega arith)) in
+    let x = more.candidates i d within in
+    let known = facts x.key x.pattern x.found in
+    let below = x.below in
+    let right = designated_named G graph x.pattern known (get_or more.pairs i d).1 x.under.right in
+    (omega arith, omega arith)) in
     omega arith

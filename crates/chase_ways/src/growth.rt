@@ -85,6 +85,7 @@ pub fn chase_growth<R: Threads + Wait + Sync, G: Gate>(
     ensures stop { IfErr result (IsRightStop both patterns.items limit) }
 {
     if !is_counted(&both, &patterns, limit) {
+        // No machine has memory for so many valuations.
         let grown = grow_signatures(rt, alloc, workers, &first, &both, &patterns, u64::MAX)?;
         return grown.ok_or(Stop::NoMemory);
     }

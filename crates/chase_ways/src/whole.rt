@@ -127,6 +127,7 @@ fn chase_uncounted<R: Threads + Sync>(
     ensures classes { IfOk result (λ f. AreClasses graph patterns.items f.labels.items) }
 {
     let chased = by_signatures(rt, alloc, threads, &graph, &patterns, &[], u64::MAX)?;
+    // No machine has memory for so many valuations.
     let Some(Chased { labels, journal }) = chased else {
         return Err(NoMemory);
     };

@@ -1,4 +1,6 @@
-//! Graphs that grow, chased in both ways.
+//! Graphs that grow, chased in both ways, and with no limit of pairs.
+
+ghost use Rattle.chase_ways.specs.Limit.{CanBeKept};
 
 use crate::alike::{are_labels, begins_with};
 use crate::cases::{Case, failed_pair, from_nothing, late_code, late_next};
@@ -12,16 +14,19 @@ use std::test::Fail;
 use std::thread::Threads;
 use steal_pool::OpenGate;
 
-/// Whether growth in one of the ways finds as much as a case says, and keeps what it found first.
+/// Whether growth in one of the ways finds as much as a case says, and keeps what it found first, with so many candidate pairs
+/// at most.
 fn is_found_by<R: Threads + Wait + Sync>(
     rt: &R,
     alloc: Global,
     case: &Case,
     way: Way,
-) -> Result<bool, Fail> {
+    limit: u64,
+) -> Result<bool, Fail>
+    requires { CanBeKept limit }
+{
     let (first, both) = graphs_of(alloc, &case.first, case.added)?;
     let keys = patterns_of(alloc, case.keys)?;
-    let limit = u64::from(case.limit);
     let made = chase_growth(rt, alloc, 2, first, both, keys, limit, Some(way), &OpenGate);
     let Ok(grown) = made else {
         return Ok(false);
@@ -34,14 +39,16 @@ fn is_found_by<R: Threads + Wait + Sync>(
     )
 }
 
-/// Asserts that both ways find what a case says.
+/// Asserts that both ways find what a case says, and also a chase that counts no pairs.
 fn assert_found_by_both<R: Threads + Wait + Sync + Abort>(
     rt: &R,
     alloc: Global,
     case: &Case,
 ) -> Result<(), Fail> {
-    assert!(rt; is_found_by(rt, alloc, case, Way::Pairs)?);
-    assert!(rt; is_found_by(rt, alloc, case, Way::Signatures)?);
+    let limit = u64::from(case.limit);
+    assert!(rt; is_found_by(rt, alloc, case, Way::Pairs, limit)?);
+    assert!(rt; is_found_by(rt, alloc, case, Way::Signatures, limit)?);
+    assert!(rt; is_found_by(rt, alloc, case, Way::Pairs, u64::MAX)?);
     Ok(())
 }
 

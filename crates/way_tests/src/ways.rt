@@ -1,4 +1,6 @@
-//! Both ways over graphs by chance.
+//! Both ways over graphs by chance, and no limit of pairs.
+
+ghost use Rattle.chase_ways.specs.Limit.{CanBeKept};
 
 use crate::ENOUGH;
 use crate::chances::{graph_of, keys};
@@ -9,16 +11,19 @@ use std::sync::Wait;
 use std::thread::Threads;
 use steal_pool::OpenGate;
 
-/// What the chase of a graph by chance comes to in one of the ways.
+/// What the chase of a graph by chance comes to in one of the ways, with so many candidate pairs at most.
 fn chased<R: Threads + Wait + Sync + Abort>(
     rt: &R,
     alloc: Global,
     number: u64,
     way: Way,
-) -> Finished {
+    limit: u64,
+) -> Finished
+    requires { CanBeKept limit }
+{
     let graph = graph_of(alloc, number).expect(rt, ENOUGH);
     let patterns = keys(alloc).expect(rt, ENOUGH);
-    chase_graph(rt, alloc, 2, graph, patterns, 1_000, Some(way), &OpenGate).expect(rt, "few pairs")
+    chase_graph(rt, alloc, 2, graph, patterns, limit, Some(way), &OpenGate).expect(rt, "few pairs")
 }
 
 /// Whether labels are equal exactly where others are.
@@ -36,19 +41,21 @@ fn are_alike(labels: &[u32], others: &[u32]) -> bool {
     true
 }
 
-/// How much is identified, where both ways identify as much, and the same.
+/// Whether as much is identified, and the same.
+fn is_same(finished: &Finished, other: &Finished) -> bool {
+    are_alike(&finished.labels, &other.labels) && finished.journal.len() == other.journal.len()
+}
+
+/// How much is identified, where both ways identify as much, and the same, and so does a chase that counts no pairs.
 fn found_alike<R: Threads + Wait + Sync + Abort>(
     rt: &R,
     alloc: Global,
     number: u64,
 ) -> Option<usize> {
-    let pairs = chased(rt, alloc, number, Way::Pairs);
-    let signatures = chased(rt, alloc, number, Way::Signatures);
-    if !are_alike(&pairs.labels, &signatures.labels) {
-        return None;
-    }
-    let found = pairs.journal.len();
-    (found == signatures.journal.len()).then_some(found)
+    let pairs = chased(rt, alloc, number, Way::Pairs, 1_000);
+    let signatures = chased(rt, alloc, number, Way::Signatures, 1_000);
+    let uncounted = chased(rt, alloc, number, Way::Pairs, u64::MAX);
+    (is_same(&pairs, &signatures) && is_same(&pairs, &uncounted)).then_some(pairs.journal.len())
 }
 
 #[test]
