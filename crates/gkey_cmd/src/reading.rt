@@ -76,7 +76,7 @@ pub(crate) fn read_proof<S: Shelf>(
         Err(Stop::Fault(Failed)) => return Err(Ending::Failed(File::Proof)),
     };
     let proof = proof_file::read_proof(alloc, &bytes, limits.bytes)?;
-    // So many steps have no numbers of four bytes, and a checker has no room for them.
+    // Steps have numbers of 32 bits. No command has memory for a proof with more of them.
     if proof.steps.len() >= 1 << 32 {
         return Err(Ending::NoMemory);
     }
