@@ -1,5 +1,5 @@
 -- The commands, and the words that ask for them (this project's own).
-use Rattle.std.specs.Prelude.{List, [], ◌∷◌, ℕ, zero, suc, Bool, true, false, ◌<◌, ◌≤◌, Option, Some, None, option_map, is_some, ◌&&◌, codes, bytes_eq, drop, if◌then◌else◌, ◌≡◌, ⊤}
+use Rattle.std.specs.Prelude.{List, [], ◌∷◌, ℕ, zero, suc, Bool, false, ◌<◌, ◌≤◌, Option, Some, None, option_map, is_some, ◌&&◌, codes, bytes_eq, drop, if◌then◌else◌, ◌≡◌, ⊤}
 use Rattle.std.specs.Fmt.{decimal}
 use Rattle.gkey_cmd.specs.declared.file.File.{File}
 use Rattle.gkey_cmd.specs.declared.file.File.TheVariants.{Graph, More, Keys, Proof}
