@@ -12,6 +12,7 @@ N-Triples. What is done is told on standard error. All tables have a name with g
 """
 
 import argparse
+import contextlib
 import multiprocessing
 import os
 import pathlib
@@ -93,7 +94,10 @@ class Sqlite:
 
     def __init__(self, place, _workers):
         self.place, self.is_new = place, not os.path.exists(place) or os.path.getsize(place) == 0
-        self.base = sqlite3.connect(place, isolation_level=None)
+        try:
+            self.base = sqlite3.connect(place, isolation_level=None)
+        except sqlite3.Error as error:
+            raise Refused(f"{place}: {one_line(error)}") from None
         self.run("PRAGMA cache_size = -500000")
         if self.is_new:    # nobody else's tables can be lost
             self.run("PRAGMA journal_mode = OFF")
@@ -107,10 +111,12 @@ class Sqlite:
         for part in parts:
             told = Told(part)
             self.run("BEGIN")
-            for batch in batches(rows_of(plan, part, told)):
-                self.base.executemany("INSERT INTO gkey_row VALUES (?, ?, ?, ?)", batch)
-                rows += len(batch)
-            self.run("COMMIT")
+            try:
+                for batch in batches(rows_of(plan, part, told)):
+                    self.base.executemany("INSERT INTO gkey_row VALUES (?, ?, ?, ?)", batch)
+                    rows += len(batch)
+            finally:
+                self.run("COMMIT")
             lines += told.lines
         return lines, rows
 
@@ -127,6 +133,12 @@ class Sqlite:
         self.base.close()
         if self.is_new and os.path.exists(self.place):
             os.remove(self.place)
+
+
+def leave_signals():
+    """A process that loads ends with the one that began it, and says nothing of it."""
+    signal.signal(signal.SIGTERM, signal.SIG_DFL)
+    signal.signal(signal.SIGINT, signal.SIG_IGN)
 
 
 def copied(job):
@@ -168,7 +180,10 @@ class Postgresql:
         except ImportError:
             raise Refused("psycopg2 is missing: Debian's package python3-psycopg2, for /usr/bin/python3") from None
         self.place, self.workers, self.fault = place, workers, psycopg2.Error
-        self.base = psycopg2.connect(place)
+        try:
+            self.base = psycopg2.connect(place)
+        except psycopg2.Error as error:
+            raise Refused(f"postgresql: {one_line(error)}") from None
         self.base.autocommit = True
         self.base.set_client_encoding("UTF8")
         self.at = self.base.cursor()
@@ -192,7 +207,7 @@ class Postgresql:
 
     def load(self, plan, parts):
         jobs = [(self.place, plan, part) for part in parts]
-        with multiprocessing.Pool(max(1, min(len(parts), self.workers))) as pool:
+        with multiprocessing.Pool(max(1, min(len(parts), self.workers)), leave_signals) as pool:
             counts = list(pool.imap_unordered(copied, jobs) if len(parts) > 1 else map(copied, jobs))
         return tuple(map(sum, zip(*counts)))
 
@@ -204,12 +219,14 @@ class Postgresql:
 
     def rows(self, text):
         self.base.autocommit = False
-        rows = self.base.cursor("gkey_rows")
-        rows.itersize = MANY
-        rows.execute(text)
-        yield from rows
-        self.base.commit()
-        self.base.autocommit = True
+        try:
+            rows = self.base.cursor("gkey_rows")
+            rows.itersize = MANY
+            rows.execute(text)
+            yield from rows
+        finally:
+            self.base.rollback()
+            self.base.autocommit = True
 
     def close(self):
         self.base.close()
@@ -241,11 +258,12 @@ def sift(engine, plan, parts, statements=None):
             if made_by(text):
                 engine.look(made_by(text))
             if text.startswith("CREATE TABLE gkey_shared_"):
-                say(f"{name}: {engine.count(made_by(text)):,} valuations share their values")
+                say(f"{name}, step {int(made_by(text)[-1]) + 1}: {engine.count(made_by(text)):,} valuations share their values")
         say(f"{engine.count('gkey_sifted'):,} of {lines:,} triples are kept")
         yield from engine.rows(SIFTED)
     finally:
-        drop(engine, statements)
+        with contextlib.suppress(engine.fault):    # what went wrong before is what is told
+            drop(engine, statements)
 
 
 class Out:
@@ -263,10 +281,8 @@ class Out:
             os.replace(self.beside, self.name)
 
     def give_up(self):
-        try:
+        with contextlib.suppress(OSError):
             self.file.close()
-        except OSError:
-            pass
         if self.name and os.path.exists(self.beside):
             os.remove(self.beside)
 
@@ -275,13 +291,11 @@ def write(out, words, workers):
     if len(words) < 4 or words[0] not in ENGINES:
         raise Refused("words: sqlite FILE KEYS PART.. or postgresql DSN KEYS PART.. (--help tells more)")
     plan = plan_of(words[2])
-    engine = ENGINES[words[0]](words[1], workers)
-    try:
-        out.file.writelines(f"{subject} {predicate} {end} .\n" for subject, predicate, end in sift(engine, plan, words[3:]))
-    except engine.fault as error:
-        raise Refused(f"{words[0]}: {one_line(error)}") from None
-    finally:
-        engine.close()
+    with contextlib.closing(ENGINES[words[0]](words[1], workers)) as engine:
+        try:
+            out.file.writelines(f"{subject} {predicate} {end} .\n" for subject, predicate, end in sift(engine, plan, words[3:]))
+        except engine.fault as error:
+            raise Refused(f"{words[0]}: {one_line(error)}") from None
 
 
 def write_text(out, keys):
@@ -316,8 +330,12 @@ def main():
         else:
             write(out, options.words, max(1, options.workers))
         out.finish()
-    except (Refused, OSError, KeyboardInterrupt) as error:
-        sys.exit(f"sift: {'stopped' if isinstance(error, KeyboardInterrupt) else one_line(error)}")
+    except Refused as error:
+        sys.exit(f"sift: {error}")
+    except OSError as error:
+        sys.exit(f"sift: {error.filename or options.out or 'standard output'}: {error.strerror}")
+    except KeyboardInterrupt:
+        sys.exit("sift: stopped")
     finally:
         if out:
             out.give_up()
