@@ -16,6 +16,7 @@ postgres where root runs it, and stops it. It prints a line for each comparison,
 """
 
 import contextlib
+import itertools
 import os
 import pathlib
 import pwd
@@ -258,7 +259,7 @@ def examples(folder):
 def made_graphs(engines, folder, size):
     wrong = 0
     made = ((f"{kind} {size}", *graphs.written(folder, kind, size)) for kind in graphs.KINDS if kind != "sparse")
-    for case, graph, keys in (*examples(folder), *made):
+    for case, graph, keys in itertools.chain(examples(folder), made):    # each is written over the one before
         parts, _ = parted(graph, folder, 1 if graph.stat().st_size < 10 ** 5 else PARTS)
         plan = sift.plan_of(keys)
         for name, engine in engines.items():
@@ -266,7 +267,9 @@ def made_graphs(engines, folder, size):
             kept = sifted(engine, plan, parts, folder / "sifted.nt")
             seconds, found = time.monotonic() - start, differences(graph, folder / "sifted.nt", keys, folder)
             wrong += bool(found)
-            print(f"{name}: {case}: {kept} of {graphs.line_count(graph)} triples, {seconds:.1f} s: {', '.join(found) or 'the same'}", flush=True)
+            classes = gkey("match", graph, keys).stdout.count(b"\n")
+            print(f"{name}: {case}: {kept} of {graphs.line_count(graph)} triples, {classes} classes, {seconds:.1f} s: "
+                  f"{', '.join(found) or 'the same'}", flush=True)
     return wrong
 
 
