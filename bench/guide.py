@@ -4,13 +4,15 @@ it looks whether its links lead to files and headings of the repository.
 
 Usage: bench/guide.py [PAGE ..]   (README.md, docs/GUIDE.md and docs/SIZES.md, if none is given)
 
+The page scale/README.md needs Debian's packages postgresql and python3-psycopg2, too.
+
 Blocks between lines of ``` are of three sorts. One that has a line with `$ ` in front is a session: each such line is a
 command, with the lines that follow a `\\` at its end, and what stands below it is what it prints, on either stream. A block
 whose first word is `key` is a key file, and any other block whose lines end in ` .` is a graph: the program must accept these.
 A block of none of these sorts is told as such, and makes the status 1.
 
-All commands of a page run one after another in one shell, in a folder of its own, which has docs/, examples/, bench/ and bin/
-of this repository, the program, and no sources, so that bin/gkey finds nothing to build. The commands in NOT_RUN are left out.
+All commands of a page run one after another in one shell, in a folder of its own, which has docs/, examples/, bench/, bin/
+and scale/ of this repository, the program, and no sources, so that bin/gkey finds nothing to build. The commands in NOT_RUN are left out.
 It needs Debian's packages serdi, raptor2-utils, graphviz and pv; where one is missing, it names it and ends with status 1.
 
 It prints what differs, and for each page how many commands are as shown.
@@ -69,7 +71,7 @@ def session_of(first, lines):
 
 def copied(folder):
     """A copy of the repository without its sources, in which bin/gkey runs the program."""
-    for name in ("docs", "examples", "bench", "bin"):
+    for name in ("docs", "examples", "bench", "bin", "scale"):
         shutil.copytree(TOP / name, folder / name, ignore=shutil.ignore_patterns("__pycache__"))
     for name in ("README.md", "crates.txt"):
         shutil.copy2(TOP / name, folder / name)
@@ -144,7 +146,7 @@ def heading_names(text):
 
 def lost_links():
     """The links of all pages that lead to no file or heading of the repository."""
-    pages = [TOP / "README.md", *(path for part in ("docs", "bench", "examples") for path in sorted((TOP / part).rglob("*.md")))]
+    pages = [TOP / "README.md", *(path for part in ("docs", "bench", "examples", "scale") for path in sorted((TOP / part).rglob("*.md")))]
     for page in pages:
         for link in re.findall(r"\]\(([^)\s]+)\)", page.read_text(encoding="utf-8")):
             name, _, heading = link.partition("#")
