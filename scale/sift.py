@@ -317,6 +317,8 @@ def main():
     parser.add_argument("--text", action="store_true", help=argparse.SUPPRESS)
     parser.add_argument("--rows", action="store_true", help=argparse.SUPPRESS)
     options = parser.parse_intermixed_args()
+    if sys.version_info < (3, 11):
+        sys.exit("sift: Python 3.11 or later is needed, whose table of case folding is young enough")
     signal.signal(signal.SIGTERM, lambda *_: sys.exit("sift: stopped"))
     out = None
     try:
