@@ -154,7 +154,7 @@ fn at_limits() -> &'static [(Limits, &'static str)] {
 fn large_matches_have_the_limits_of_large_runs(rt: HostRuntime) {
     for (row, (limits, err)) in at_limits().iter().enumerate() {
         let within = Case {
-            words: large()[0],
+            words: &["--large", "match", "g", "k"],
             limits: NOTHING,
             large: Some(*limits),
             ..good()
